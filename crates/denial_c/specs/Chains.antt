@@ -1,4 +1,4 @@
--- What is answered where a chain is made of octets.
+-- The result of making a chain from octets.
 use Rattle.std.specs.Prelude.{◌≡◌, ◌≢◌, ℕ, List, [], ◌++◌, length, ◌==◌, ◌&&◌, not, Bool, true, false, ◌∷◌, Option, Some, None, ◌<◌, ◌≤◌}
 use Rattle.std.specs.{Prelude.{drop, Result, Ok, Err, if◌then◌else◌}, List.{AllByRecursion, flat_map, list_any}}
 use Rattle.domain_octets.specs.Octets.{Octets}
@@ -18,37 +18,37 @@ use Rattle.domain_hasher.specs.declared.error.Nsec3HashError.TheVariants as hash
 use Rattle.domain_records.specs.declared.error.SigningError.TheVariants as signing_error
 use Rattle.denial_c.specs.declared.fault.Fault.TheVariants as fault
 
--- ---- Octets as the records of a zone, which are all of one class, or the first place where they are
--- not.
+-- ---- Octets as the records of a zone, which are all of one class, or the first place where they
+-- are not.
 
--- a record of the class that has octets
+-- a valid record of the class
 abbrev pub IsOfClass : ℕ → RawRecord → Type 0
 IsOfClass class r = IsRecord r × (r.class ≡ class)
 
--- the octets are these records of the class, one after another
+-- the octets encode these records of the class, one after another
 pub record AreGiven (class : ℕ) (octets : Octets) (given : List RawRecord) : Type 0 where
   pub are : octets ≡ flat_map record_octets given
   pub whole : AllByRecursion (IsOfClass class) given
 
--- records of the class stand before an offset, and these octets from it on
+-- records of the class are before an offset, and these octets from it on
 pub record IsReadUpTo (class : ℕ) (octets : Octets) (offset : ℕ) (left : Octets) : Type 0 where
   pub before : List RawRecord
   pub are : octets ≡ flat_map record_octets before ++ left
   pub whole : AllByRecursion (IsOfClass class) before
   pub far : offset ≡ length (flat_map record_octets before)
 
--- octets, but such as begin with no record
+-- octets, not empty, that begin with no record
 pub record BeginsNone (octets : Octets) : Type 0 where
   pub some : octets ≢ []
   pub none : (r : RawRecord) (after : Octets) → IsRecord r → octets ≡ record_octets r ++ after → ⊥
 
--- after records of the class come octets that begin with no record
+-- after records of the class there are octets that begin with no record
 pub record HasNoRecordAt (class : ℕ) (octets : Octets) (offset : ℕ) : Type 0 where
   pub left : Octets
   pub read : IsReadUpTo class octets offset left
   pub none : BeginsNone left
 
--- after records of the class comes one of another class
+-- after records of the class there is one of another class
 pub record HasOtherClassAt (class : ℕ) (octets : Octets) (offset : ℕ) : Type 0 where
   pub first : RawRecord
   pub after : Octets
@@ -56,26 +56,26 @@ pub record HasOtherClassAt (class : ℕ) (octets : Octets) (offset : ℕ) : Type
   pub fits : IsRecord first
   pub other : first.class ≢ class
 
--- ---- Where records of one owner and type differ in TTL (RFC 2181, section 5.2).
+-- ---- The places where records of one owner and type differ in TTL (RFC 2181, section 5.2).
 
--- of the owner and the type
+-- the record is of the owner and the type
 abbrev pub is_in_set : Name → ℕ → RawRecord → Bool
 is_in_set n t r = same_name r.owner n && (r.«data».rtype == t)
 
--- of these names the owner is the first of which records clash
+-- the owner is one of these names, and no name before it has records that differ in TTL
 pub record IsFirstUneven (L : List ZoneRecord) (names : List Name) (owner : Name) : Type 0 where
   pub passed : List Name
   pub rest : List Name
   pub among : names ≡ passed ++ owner ∷ rest
   pub even : has_unequal_ttls L passed ≡ false
 
--- there is a first TTL, and this is another
+-- there is a first TTL, and this one differs
 abbrev pub is_other : Option ℕ → ℕ → Bool
 is_other (Some first) ttl = not (first == ttl)
 is_other None ttl = false
 
--- at the offset stands a record of the owner and the type, after others of these that all have
--- another TTL, and one
+-- at the offset is a record of the owner and the type, after others of these, one or more, that all
+-- have the same other TTL
 pub record IsUnevenAt (class : ℕ) (octets : Octets) (n : Name) (t : ℕ) (offset : ℕ) : Type 0 where
   pub first : RawRecord
   pub after : Octets
@@ -87,10 +87,10 @@ pub record IsUnevenAt (class : ℕ) (octets : Octets) (n : Name) (t : ℕ) (offs
   pub some : list_any (is_in_set n t) read.before ≡ true
   pub one_ttl : AllByRecursion (λ r. is_in_set n t r ≡ true → r.ttl ≡ ttl) read.before
 
--- ---- What is answered where a chain is made of octets: the chain of the records that the octets are,
--- octet for octet, or exactly why there is none.
+-- ---- The result of making a chain from octets: the chain of the records that the octets encode,
+-- octet for octet, or the exact reason why there is none.
 
--- these are the records of the class that the octets are, sorted
+-- these are the records of the class that the octets encode, sorted
 pub record AreSorted (class : ℕ) (octets : Octets) (sorted : List RawRecord) : Type 0 where
   pub given : List RawRecord
   pub are : AreGiven class octets given
@@ -98,7 +98,8 @@ pub record AreSorted (class : ℕ) (octets : Octets) (sorted : List RawRecord) :
   pub one_class : IsOneClass sorted
   pub in_order : IsInOrder (λ n. n) (λ d. d.rtype) sorted
 
--- the octets are an apex and the records of a zone, of one class, which are so when they are sorted
+-- the octets encode an apex and the records of a zone, of one class, and AreSo holds for these when
+-- they are sorted
 pub record HasZone (apex : Octets) (class : ℕ) (records : Octets)
     (AreSo : Name → List RawRecord → Type 0) : Type 0 where
   pub a : Name
@@ -107,16 +108,16 @@ pub record HasZone (apex : Octets) (class : ℕ) (records : Octets)
   pub are : AreSorted class records sorted
   pub so : AreSo a sorted
 
--- why the octets are no records of the class; want of memory says that they are
+-- the reason why the octets do not encode records of the class; out of memory says that they do
 abbrev pub IsGivenFault : ℕ → Octets → Fault → Type 0
 IsGivenFault class octets (fault.NoRecord offset) = HasNoRecordAt class octets offset
 IsGivenFault class octets (fault.Class offset) = HasOtherClassAt class octets offset
 IsGivenFault class octets fault.OutOfMemory = (given : List RawRecord) × AreGiven class octets given
 IsGivenFault class octets _ = ⊥
 
--- the record at the offset is the first of its owner and type that has another TTL; the owner is
--- the first of these names of the sorted records that has unequal TTLs, and the type the least of
--- which it has them
+-- the record at the offset is the first of its owner and type with another TTL; the owner is the
+-- first of these names of the sorted records that has unequal TTLs, and the type the least one with
+-- unequal TTLs
 pub record IsSortedUnevenAt (names : List ZoneRecord → Name → List Name) (class : ℕ)
     (octets : Octets) (sorted : List RawRecord) (a : Name) (offset : ℕ) : Type 0 where
   pub owner : Name
@@ -125,10 +126,10 @@ pub record IsSortedUnevenAt (names : List ZoneRecord → Name → List Name) (cl
   pub clash : IsFirstClash (records_of (zone_of_raw sorted) owner) rtype
   pub at : IsUnevenAt class octets owner rtype offset
 
--- ---- what is made of a zone
+-- ---- what is made from a zone
 
--- what is made of sorted records of an apex: the octets of which chain, with which salt; the first
--- fault, or want of memory where none stands; and the owners that are to have equal TTLs
+-- what is made from sorted records and an apex: which octets, with which salt; the first fault, or
+-- out of memory if there is none; and the owners that must have equal TTLs
 pub record Making : Type 1 where
   pub salt : Octets
   pub is_chain : Name → List RawRecord → Octets → Type 0
@@ -146,8 +147,8 @@ nsec_making config =
       names = covered_names false config.occlude_below_dname;
     }
 
--- NSEC3 records and their NSEC3PARAM record, which by `Soa` has the TTL of the SOA record; want of
--- memory leaves open whether a fault of hashing stands
+-- NSEC3 records and their NSEC3PARAM record, which has the TTL of the SOA record for `Soa`; out of
+-- memory leaves open whether hashing has a fault
 abbrev pub nsec3_making : Nsec3ParamTtlMode → ChainConfig → Making
 nsec3_making mode config =
     record {
@@ -160,7 +161,7 @@ nsec3_making mode config =
       names = covered_names (excludes config) config.occlude_below_dname;
     }
 
--- why sorted records of one class, which the octets are in any order, have no chain
+-- the reason why sorted records of one class, which the octets encode in any order, have no chain
 abbrev pub IsSortedFault : Making → ℕ → Octets → Name → List RawRecord → Fault → Type 0
 IsSortedFault making class octets a sorted fault.Soa =
     making.is_fault a sorted signing_error.SoaRecordCouldNotBeDetermined
@@ -177,8 +178,8 @@ IsSortedFault making class octets a sorted _ = ⊥
 
 -- ---- hashes
 
--- SHA-1 (RFC 5155, section 11), with so many iterations and a salt; unsigned delegations are left
--- out where opt-out is chosen, and the flags of all records are those of opt-out then
+-- SHA-1 (RFC 5155, section 11), with these iterations and this salt; with opt-out, unsigned
+-- delegations are left out, and all records have the opt-out flag
 abbrev pub hashed_config : ℕ → Octets → Bool → Bool → Bool → ChainConfig
 hashed_config iterations salt opt_out assume_dnskey occlude_below_dname =
     let parameters : Parameters = record { algorithm = 1; iterations = iterations; salt = salt } in
@@ -194,19 +195,19 @@ hashed_config iterations salt opt_out assume_dnskey occlude_below_dname =
 abbrev pub config_by : Hashing → ChainConfig
 config_by h = hashed_config h.iterations h.salt.now h.opt_out h.assume_dnskey h.occlude_below_dname
 
--- why names have no hashes of use, where this is the reason: no other stands where SHA-1 hashes
+-- the fault of an error of hashing: SHA-1 leads to no others
 abbrev pub hashing_fault : Nsec3HashError → Fault
 hashing_fault hash_error.CollisionDetected = fault.Collision
 hashing_fault _ = fault.LongOwner
 
--- ---- what is left in the buffer
+-- ---- the buffer after the call
 
--- the octets were written to the beginning of the buffer, and there are so many
+-- `count` octets were written to the beginning of the buffer
 pub record IsWritten (written old new : Octets) (count : ℕ) : Type 0 where
   pub counts : count ≡ length written
   pub is : new ≡ written ++ drop count old
 
--- there are so many octets, more than the buffer has room for
+-- there are `count` octets, more than the buffer has room for
 pub record IsTooMuch (written old : Octets) (count : ℕ) : Type 0 where
   pub counts : count ≡ length written
   pub more : length old < length written
@@ -215,9 +216,9 @@ pub record IsTooMuch (written old : Octets) (count : ℕ) : Type 0 where
 abbrev pub IsFit : Making → Type 0
 IsFit making = length making.salt ≤ 255
 
--- why no chain was written: the first fault that stands, and where none does, want of memory or of
--- room. Want of memory says that the octets are an apex and records of the class, and leaves open
--- whether their zone has a fault.
+-- the reason why no chain was written: the first fault or, if there is none, out of memory or a
+-- short buffer; out of memory says that the octets encode an apex and records of the class, and
+-- leaves open whether their zone has a fault
 abbrev pub IsChainFault : Making → Octets → ℕ → Octets → Octets → Fault → Type 0
 IsChainFault making apex class records old fault.Apex = IsSpelled apex → ⊥
 IsChainFault making apex class records old fault.LongSalt =
@@ -235,7 +236,7 @@ IsChainFault making apex class records old e =
     IsFit making
     × HasZone apex class records (λ a sorted. IsSortedFault making class records a sorted e)
 
--- what is answered, and what the buffer has then: a fault leaves it as it was
+-- the result and the buffer after the call: a fault leaves the buffer as it was
 abbrev pub IsChainResult : Making → Octets → ℕ → Octets → Result ℕ Fault → Octets → Octets → Type 0
 IsChainResult making apex class records (Ok count) old new =
     IsFit making × HasZone apex class records (λ a sorted. (written : Octets)
@@ -243,11 +244,11 @@ IsChainResult making apex class records (Ok count) old new =
 IsChainResult making apex class records (Err e) old new =
     IsChainFault making apex class records old e × (new ≡ old)
 
--- ---- What is answered where two names of an NSEC3 chain hash alike: both names, or exactly why there
--- is no such answer.
+-- ---- The result of looking for two names of an NSEC3 chain with the same hash: both names, or the
+-- exact reason why there is no result.
 
--- of the chain of the records, in whatever order they stand, this is the first pair of names that
--- hash alike, or it has none
+-- the first pair of names with the same hash in the chain of the records, which are in any order,
+-- or None if there is no such pair
 abbrev pub HasFirstPair : Octets → ℕ → ChainConfig → Octets → Option Pair → Type 0
 HasFirstPair apex class config records pair =
     HasZone apex class records (λ a sorted. IsFirstPair (zone_of_raw sorted) a config pair)
@@ -257,14 +258,15 @@ pub record Written : Type 0 where
   pub old : Octets
   pub new : Octets
 
--- the wire form of the name, in lower case, was written to the beginning of the buffer
+-- the wire form of the name, in lower case, is at the beginning of the buffer, and the rest is as
+-- before
 abbrev pub IsNamed : Name → Written → Type 0
 IsNamed n buffer = buffer.new ≡ wire_of (lowered n) ++ drop (length (wire_of n)) buffer.old
 
 abbrev pub IsKept : Written → Type 0
 IsKept buffer = buffer.new ≡ buffer.old
 
--- of names that hash alike no chain is made, and no fault of a zone counts
+-- no chain is made from names with the same hash, and no fault of the zone counts
 abbrev pub pair_making : ChainConfig → Making
 pair_making config =
     record {
@@ -274,8 +276,8 @@ pair_making config =
       names = λ L a. [];
     }
 
--- what is answered, and what both buffers have then: the earlier name of the pair and the later
--- one, or what they had
+-- the result and both buffers after the call: the earlier and the later name of the pair, or what
+-- they had
 abbrev pub IsCollisionResult : Octets → ℕ → ChainConfig → Octets → Result Bool Fault → Written
     → Written → Type 0
 IsCollisionResult apex class config records (Ok true) earlier later =

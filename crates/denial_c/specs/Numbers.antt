@@ -1,4 +1,4 @@
--- Verdicts, whole answers, chains and faults by the numbers that C sees, and the text of each.
+-- The numbers of verdicts, whole answers, chains and faults for C, and the text of each.
 use Rattle.std.specs.Prelude.{ℕ, Bool, true, false, Result, Ok, Err, ◌≡◌, ◌-◌, ◌<◌, ◌==◌, not, ◌&&◌, List, [], ◌∷◌, ◌++◌, codes, length}
 use Rattle.std.specs.Prelude.{replicate, if◌then◌else◌}
 use Rattle.domain_answer.specs.declared.answer.Answer.{Answer}
@@ -11,9 +11,9 @@ use Rattle.domain_answer.specs.declared.answer.Answer.TheVariants as answers
 use Rattle.domain_checker.specs.declared.verdict.Verdict.TheVariants as verdicts
 use Rattle.denial_c.specs.declared.fault.Fault.TheVariants as faults
 
--- ---- Verdicts, whole answers, chains and faults by the numbers that C sees.
+-- ---- The numbers of verdicts, whole answers, chains and faults for C.
 
--- the number of a verdict, and how many labels the closest encloser has; 0 where it has none
+-- the number of a verdict, and the number of labels of the closest encloser, or 0 without one
 abbrev pub verdict_told : Verdict → ℕ × ℕ
 verdict_told NotProven = (0, 0)
 verdict_told OutsideZone = (1, 0)
@@ -27,8 +27,8 @@ verdict_told (NoName count) = (7, count)
 abbrev pub verdict_number : Verdict → ℕ
 verdict_number verdict = (verdict_told verdict).0
 
--- the number of a whole answer, and how many labels the zone cut, the owner of the DNAME record or
--- the closest encloser has; 0 where it has none
+-- the number of a whole answer, and the number of labels of the zone cut, the owner of the DNAME
+-- record or the closest encloser, or 0 without one
 abbrev pub answer_told : Answer → ℕ × ℕ
 answer_told answers.NotProven = (32, 0)
 answer_told answers.OutsideZone = (33, 0)
@@ -50,8 +50,8 @@ answer_told answers.TooManyIterations = (47, 0)
 abbrev pub answer_number : Answer → ℕ
 answer_number answer = (answer_told answer).0
 
--- the number of a fault, and the offset where it stands, or how many octets there is no room for; 0
--- where it has neither
+-- the number of a fault, and the offset of the record, or the number of octets that do not fit; 0
+-- without either
 abbrev pub fault_told : Fault → ℕ × ℕ
 fault_told Apex = (16, 0)
 fault_told Name = (17, 0)
@@ -71,23 +71,23 @@ fault_told Collision = (28, 0)
 abbrev pub fault_number : Fault → ℕ
 fault_number fault = (fault_told fault).0
 
--- what is told of a value, or of a fault, which has no labels
+-- the numbers of a value, or of a fault, which has no labels
 abbrev pub told_by : {V : Type 0} → (V → ℕ × ℕ) → Result V Fault → ℕ × ℕ
 told_by told (Ok value) = told value
 told_by told (Err fault) = (fault_number fault, 0)
 
--- ---- chains, and names that hash alike
+-- ---- chains, and names with the same hash
 
 -- a chain was written
 abbrev pub chain_made : ℕ
 chain_made = 48
 
--- the number of a chain or a fault, and how many octets the chain has, or what its fault counts
+-- the number of a chain or a fault, and the number of octets of the chain, or what the fault counts
 abbrev pub chain_told : Result ℕ Fault → ℕ × ℕ
 chain_told (Ok count) = (chain_made, count)
 chain_told (Err fault) = fault_told fault
 
--- no two names hash alike
+-- no two names have the same hash
 abbrev pub no_collision : ℕ
 no_collision = 49
 
@@ -96,10 +96,10 @@ collision_number (Ok true) = fault_number Collision
 collision_number (Ok false) = no_collision
 collision_number (Err e) = fault_number e
 
--- ---- The text of each number that C sees.
+-- ---- The text of each number for C.
 
--- of each verdict, each fault, each whole answer, a chain and one without a collision, whatever it
--- counts
+-- the text of each verdict, each fault, each whole answer, a chain and a chain without a collision,
+-- whatever its count
 abbrev pub texts : List (ℕ × Octets)
 texts =
     (verdict_number verdicts.NotProven, codes "not proven")
@@ -143,7 +143,7 @@ texts =
     ∷ (no_collision, codes "no collision")
     ∷ []
 
--- the text that a list has for a number, or that there is none
+-- the text of a number in a list, or a text that says that there is none
 abbrev pub text_among : ℕ → List (ℕ × Octets) → Octets
 text_among number [] = codes "no number of this library"
 text_among number (row ∷ rows) = if number == row.0 then row.1 else text_among number rows
@@ -156,7 +156,7 @@ abbrev pub has_no_end : Octets → Bool
 has_no_end [] = true
 has_no_end (octet ∷ octets) = not (octet == 0) && has_no_end octets
 
--- the octets are the text as C reads it: nothing but octets 0 follows it, one or more
+-- the octets are the text as C reads it: zero octets follow it, one or more, and nothing else
 pub record IsText (text octets : Octets) : Type 0 where
   pub are : octets ≡ text ++ replicate (length octets - length text) 0
   pub fits : length text < length octets

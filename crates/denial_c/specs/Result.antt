@@ -1,4 +1,5 @@
--- What is answered of octets: a verdict or a whole answer over the records that the octets are.
+-- The result of a call with octets: a verdict or a whole answer over the records that the octets
+-- encode.
 use Rattle.std.specs.{Prelude.{◌≡◌, ℕ, Bool, ◌&&◌, ◌==◌, List, filter, map, ◌≢◌, ◌⊎◌, nat_lt, [], ◌∷◌, length, Result, Ok, Err}, List.AllByRecursion}
 use Rattle.std.specs.List.{flat_map}
 use Rattle.domain_octets.specs.Octets.{Octets}
@@ -17,19 +18,19 @@ use Rattle.domain_hasher.specs.declared.error.Nsec3HashError.TheVariants as hash
 use Rattle.denial_c.specs.declared.fault.Fault.TheVariants as fault
 use Rattle.denial_c.specs.declared.nsec3.Telling.TheVariants as telling
 
--- ---- The NSEC, NSEC3 and NSEC3PARAM records of a class among the records that octets are. Records of
--- other types and classes are passed over, whatever their data.
+-- ---- The NSEC, NSEC3 and NSEC3PARAM records of a class among the records in octets. Records of
+-- other types and classes are ignored, whatever their data.
 
--- of the type and the class
+-- the record is of the type and the class
 abbrev pub is_of : ℕ → ℕ → RawRecord → Bool
 is_of rtype class r = (r.«data».rtype == rtype) && (r.class == class)
 
--- an NSEC3PARAM record of the apex and the class
+-- the record is an NSEC3PARAM record of the apex and the class
 abbrev pub is_param : Name → ℕ → RawRecord → Bool
 is_param a class r =
     ((r.«data».rtype == rtypes.nsec3param) && same_name r.owner a) && (r.class == class)
 
--- the octets are records, one after another; those that are kept are these, in their order
+-- the octets encode records, one after another; those that are kept are these, in their order
 pub record AreAmong {K : Type 0} (is_kept : RawRecord → Bool) (raw : K → RawRecord)
     (IsKept : K → Type 0) (octets : Octets) (kept : List K) : Type 0 where
   pub records : List RawRecord
@@ -44,26 +45,26 @@ AreNsecs class = AreAmong (is_of rtypes.nsec class) nsec_record IsNsec
 abbrev pub AreNsec3s : ℕ → Octets → List HashedLink → Type 0
 AreNsec3s class = AreAmong (is_of rtypes.nsec3 class) nsec3_record IsNsec3
 
--- those of the apex alone
+-- the NSEC3PARAM records of the apex only
 abbrev pub AreParams : Name → ℕ → Octets → List ParamRecord → Type 0
 AreParams a class = AreAmong (is_param a class) param_record IsParam
 
--- the octets are no records, or the data of one that is to be kept are none
+-- the octets do not encode records, or a record to be kept has malformed data
 abbrev pub HasNone : {K : Type 0} → (List K → Type 0) → Type 0
 HasNone Are = (kept : List _) → Are kept → ⊥
 
--- why no records that are such were kept
+-- the reason why no such records were kept
 abbrev pub IsReadFault : {K : Type 0} → (List K → Type 0) → Fault → Type 0
 IsReadFault Are Records = HasNone Are
 IsReadFault Are OutOfMemory = Unit {0}
 IsReadFault Are _ = ⊥
 
--- ---- What is answered of octets: a verdict, which is that of the library over the records that the
--- octets are, or exactly why there is none.
+-- ---- The result of a call with octets: the verdict of the library over the records that the
+-- octets encode, or the exact reason why there is none.
 
 -- ---- names
 
--- the octets are the name, and nothing follows it
+-- the octets encode the name, and nothing follows it
 pub record Spells (octets : Octets) (labels : Name) : Type 0 where
   pub are : octets ≡ wire_of labels
   pub valid : IsName labels
@@ -73,7 +74,7 @@ IsSpelled octets = (labels : Name) × Spells octets labels
 
 -- ---- NSEC
 
--- the octets are two names and the NSEC records of a class, of which this holds
+-- the octets encode two names and NSEC records of a class, for which Holds is true
 pub record AsksNsecs (apex name : Octets) (class : ℕ) (records : Octets)
     (Holds : List Link → Name → Name → Type 0) : Type 0 where
   pub a : Name
@@ -84,7 +85,7 @@ pub record AsksNsecs (apex name : Octets) (class : ℕ) (records : Octets)
   pub are : AreNsecs class records links
   pub holds : Holds links a x
 
--- of faults the first that stands is told
+-- the first fault that applies
 abbrev pub IsNsecFault : Octets → Octets → ℕ → Octets → Fault → Type 0
 IsNsecFault apex name class records fault.Apex = IsSpelled apex → ⊥
 IsNsecFault apex name class records fault.Name = IsSpelled apex × (IsSpelled name → ⊥)
@@ -107,41 +108,41 @@ pub record HashedQuestion : Type 0 where
   pub links : List HashedLink
   pub param : ParamRecord
 
--- the records, read with hashes by SHA-1
+-- the records, read with SHA-1 hashes
 abbrev pub sha1_records : HashedQuestion → HashedRecords
 sha1_records q = links_with q.apex q.param.parameters sha1_answer q.links
 
--- where NSEC3 records and their parameters are from: which they are, of an apex, and why there are
+-- the source of NSEC3 records and their parameters: which they are for an apex, and why there are
 -- none
 pub record Source : Type 1 where
   pub are : Name → List HashedLink → ParamRecord → Type 0
   pub is_fault : Name → Fault → Type 0
 
--- the octets are the question
+-- the octets encode the question
 pub record AreAsked (source : Source) (apex name : Octets) (q : HashedQuestion) : Type 0 where
   pub apex_is : Spells apex q.apex
   pub name_is : Spells name q.name
   pub are : source.are q.apex q.links q.param
 
--- the octets are a question of which this holds
+-- the octets encode a question for which Holds is true
 pub record Asks (source : Source) (apex name : Octets) (Holds : HashedQuestion → Type 0)
     : Type 0 where
   pub q : HashedQuestion
   pub asked : AreAsked source apex name q
   pub holds : Holds q
 
--- the apex has none or several NSEC3PARAM records
+-- the apex has no NSEC3PARAM record, or several
 pub record HasNoParam (a : Name) (class : ℕ) (records : Octets) : Type 0 where
   pub params : List ParamRecord
   pub are : AreParams a class records params
   pub others : length params ≢ 1
 
--- why there is no NSEC3PARAM record
+-- the reason why there is not one NSEC3PARAM record
 abbrev pub IsParamFault : Name → ℕ → Octets → Fault → Type 0
 IsParamFault a class records fault.Param = HasNoParam a class records
 IsParamFault a class records e = IsReadFault (AreParams a class records) e
 
--- why not both are there
+-- the reason why the NSEC3 records and the NSEC3PARAM record are not both there
 abbrev pub IsChainFault : ℕ → Octets → Name → Fault → Type 0
 IsChainFault class records a e =
     IsReadFault (AreNsec3s class records) e
@@ -157,18 +158,18 @@ abbrev pub with_param : ℕ → Octets → Source
 with_param class records =
     record { are = AreWithParam class records; is_fault = IsChainFault class records }
 
--- of the zone, with no hash algorithm but SHA-1 and no flag but that of opt-out: records with
--- others are to be ignored (RFC 5155, sections 8.1 and 8.2)
+-- the record is of the zone, has the hash algorithm SHA-1 and no flag other than opt-out: records
+-- with others must be ignored (RFC 5155, sections 8.1 and 8.2)
 abbrev pub is_known : Name → HashedLink → Bool
 is_known a k = (k.parameters.algorithm == 1) && nat_lt k.flags 2 && is_at_or_below k.owner a
 
--- the parameters of the first record; without a record SHA-1, no iterations and no salt
+-- the parameters of the first record; without records SHA-1, no iterations and no salt
 abbrev pub first_parameters : List HashedLink → Parameters
 first_parameters [] = record { algorithm = 1; iterations = 0; salt = [] }
 first_parameters (k ∷ links) = k.parameters
 
 -- the NSEC3 records of a class that are not to be ignored, and the parameters of the first of them:
--- names are hashed by SHA-1, which refuses none
+-- names are hashed by SHA-1, which fails for none
 pub record AreAlone (class : ℕ) (records : Octets) (a : Name) (links : List HashedLink)
     (param : ParamRecord) : Type 0 where
   pub all : List HashedLink
@@ -181,17 +182,17 @@ abbrev pub alone : ℕ → Octets → Source
 alone class records =
     record { are = AreAlone class records; is_fault = λ a. IsReadFault (AreNsec3s class records) }
 
--- where they are from is chosen
+-- the source that was chosen
 abbrev pub source_of : Telling → ℕ → Octets → Source
 source_of telling.ByRecord = with_param
 source_of telling.ByFirst = alone
 
--- the apex is a name, and the records are not there
+-- the apex encodes a name, and the source has this fault
 abbrev pub IsSpelledFault : Source → Octets → Fault → Type 0
 IsSpelledFault source apex e = (a : Name) × Spells apex a × source.is_fault a e
 
--- of faults the first that stands is told, but for want of memory, which may come before others;
--- the hasher's is where a name that is asked for is refused
+-- the first fault that applies, except that out of memory may come before others; the hasher's
+-- fault is that it fails for a name that is looked up
 abbrev pub IsNsec3Fault : Source → Octets → Octets → Type 0 → Fault → Type 0
 IsNsec3Fault source apex name refused fault.Apex = IsSpelled apex → ⊥
 IsNsec3Fault source apex name refused fault.Name = IsSpelled apex × (IsSpelled name → ⊥)
@@ -203,13 +204,14 @@ IsNsec3Fault source apex name refused fault.Hasher = refused
 IsNsec3Fault source apex name refused fault.OutOfMemory = Unit {0}
 IsNsec3Fault source apex name refused _ = ⊥
 
--- what a check tells, with the fault in place of its error
+-- the result of a check, with a fault in place of its error
 abbrev pub told_or_fault : {V : Type 0} → Result V Nsec3HashError → Result V Fault
 told_or_fault (Ok told) = Ok told
 told_or_fault (Err hash_error.OutOfMemory) = Err fault.OutOfMemory
 told_or_fault (Err e) = Err fault.Hasher
 
--- what the library tells of a question, which may be the hasher's refusal, or why nothing is told
+-- what the library returns for a question, which may be the hasher's error, or the reason why it
+-- returns nothing
 abbrev pub IsHashedResult : {V : Type 0} → Source → Octets → Octets
     → (HashedQuestion → Result V Nsec3HashError → Type 0) → Result V Fault → Type 0
 IsHashedResult source apex name Tells (Ok told) = Asks source apex name (λ q. Tells q (Ok told))
@@ -221,7 +223,7 @@ abbrev pub IsNsec3Result : Source → Octets → Octets → ℕ → Result Verdi
 IsNsec3Result source apex name t =
     IsHashedResult source apex name (λ q. IsHashedChecked (sha1_records q) q.name t)
 
--- ---- what C is told
+-- ---- what C gets
 
 -- the numbers are those of an answer with this property
 pub record IsTold {A N : Type 0} (told : A → N) (numbers : N) (IsAnswer : A → Type 0) : Type 0 where
@@ -229,7 +231,7 @@ pub record IsTold {A N : Type 0} (told : A → N) (numbers : N) (IsAnswer : A �
   pub is : IsAnswer answer
   pub tells : numbers ≡ told answer
 
--- ---- What a question that was read says.
+-- ---- The question that was read.
 
 abbrev pub as_question : Question → HashedQuestion
 as_question q =
@@ -240,24 +242,24 @@ as_question q =
       param = as_param_record (λ n. n) q.chain.nsec3param;
     }
 
--- ---- What is answered of octets as a whole: the answer of `domain_answer` over the records that the
--- octets are, or exactly why there is none.
+-- ---- The whole answer of a call with octets: the answer of `domain_answer` over the records that
+-- the octets encode, or the exact reason why there is none.
 
--- the answer to the name and the type t, over the NSEC records of a class; of faults the first that
--- stands is told, but for want of memory, which may come before others
+-- the answer for the name and the type t, over the NSEC records of a class; or the first fault that
+-- applies, except that out of memory may come before others
 abbrev pub IsNsecAnswer : Octets → Octets → ℕ → ℕ → Octets → Result Answer Fault → Type 0
 IsNsecAnswer apex name t class records (Ok answer) =
     AsksNsecs apex name class records (λ links a x. IsJudged links a x t answer)
 IsNsecAnswer apex name t class records (Err fault.OutOfMemory) = Unit {0}
 IsNsecAnswer apex name t class records (Err e) = IsNsecFault apex name class records e
 
--- the answer to them over NSEC3 records, with at most so many iterations
+-- the answer for the name and the type t over NSEC3 records, with at most `limit` iterations
 abbrev pub IsNsec3Answer : Source → Octets → Octets → ℕ → ℕ → Result Answer Fault → Type 0
 IsNsec3Answer source apex name t limit =
     IsHashedResult source apex name (λ q. IsHashedJudged (sha1_records q) q.name t limit)
 
--- that of a name whose records were expanded from a wildcard, where n is the field Labels of their
--- signatures
+-- the answer for a name whose records were expanded from a wildcard, where n is the Labels field of
+-- their signatures
 abbrev pub IsExpansionAnswer : Source → Octets → Octets → ℕ → ℕ → Result Answer Fault → Type 0
 IsExpansionAnswer source apex name n limit =
     IsHashedResult source apex name (λ q. IsExpansionJudged (sha1_records q) q.name n limit)

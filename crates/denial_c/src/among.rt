@@ -1,4 +1,4 @@
-//! The records that octets are, one after another, and those among them that count.
+//! The records that octets encode, one after another, and those among them that count.
 ghost use Rattle.std.specs.Prelude.{◌≡◌, ◌<◌, ◌++◌, ◌&&◌, ◌==◌, map, length, IfErr, IfNone, IfOk, IfSome, OnSome};
 ghost use Rattle.domain_borrowed.specs.Data.{record_octets, IsRecord};
 ghost use Rattle.denial_c.specs.{Result.{AreAmong, IsReadFault}, Chains.BeginsNone};
@@ -9,7 +9,8 @@ use domain_borrowed::{BorrowedRecord, ReadAs, read_record};
 use domain_octets::Parser;
 use std::alloc::Global;
 
-/// The record that comes next, as `read_record` has it; less is left after it.
+/// Returns the next record, as `read_record` does, or None if the octets do not begin with one.
+/// After a record, fewer octets are left.
 #[tactic(auto, using(domain_borrowed::proofs::DataLemmas::shorter))]
 pub(crate) fn next_record<'a>(parser: &mut Parser<'a>) -> Option<BorrowedRecord<'a>>
     requires { 0 < length parser.old.left }
@@ -24,7 +25,7 @@ pub(crate) fn next_record<'a>(parser: &mut Parser<'a>) -> Option<BorrowedRecord<
     Some(next)
 }
 
-/// Whether a record counts where this apex is asked for, and is of the class.
+/// Returns whether a record counts for this apex, and is of the class.
 pub(crate) fn is_kept<'a, K: ReadAs<'a>>(
     borrowed: &BorrowedRecord<'a>,
     apex: &ParsedName<'_>,
@@ -35,8 +36,8 @@ pub(crate) fn is_kept<'a, K: ReadAs<'a>>(
     K::counts(borrowed, apex) & (borrowed.class() == class)
 }
 
-/// The records of a type that count, of an apex and a class, among the records that the octets are.
-/// Refuses octets that are no records, and such records whose data are none.
+/// Returns the records of a type that count for an apex and a class, among the records in `octets`.
+/// Rejects octets that do not encode records, and such records if their data are malformed.
 pub(crate) fn records_among<'a, K: ReadAs<'a>>(
     alloc: Global,
     apex: &ParsedName<'_>,

@@ -1,4 +1,4 @@
-//! Verdicts, whole answers, chains and faults as C sees them.
+//! Verdicts, whole answers, chains and faults as C gets them.
 ghost use Rattle.std.specs.Prelude.{◌≡◌};
 ghost use Rattle.denial_c.specs.Numbers.{answer_told, chain_told, told_by, verdict_told};
 
@@ -6,8 +6,8 @@ use crate::fault::{Fault, fault_number, fault_told};
 use domain_answer::Answer;
 use domain_checker::Verdict;
 
-/// The number of a verdict or a fault, and how many labels the closest encloser has; 0 where there
-/// is none.
+/// Returns the number of a verdict or a fault, and the number of labels of the closest encloser, or
+/// 0 if there is none.
 pub(crate) fn verdict_told(verdict: Result<Verdict, Fault>) -> (u32, usize)
     ensures { result ≡ told_by verdict_told verdict }
 {
@@ -24,8 +24,8 @@ pub(crate) fn verdict_told(verdict: Result<Verdict, Fault>) -> (u32, usize)
     }
 }
 
-/// The number of a whole answer or a fault, and how many labels the zone cut, the owner of the
-/// DNAME record or the closest encloser has; 0 where there is none.
+/// Returns the number of a whole answer or a fault, and a number of labels, or 0 if there is none.
+/// The labels are those of the zone cut, the owner of the DNAME record or the closest encloser.
 pub(crate) fn answer_told(answer: Result<Answer, Fault>) -> (u32, usize)
     ensures { result ≡ told_by answer_told answer }
 {
@@ -50,7 +50,8 @@ pub(crate) fn answer_told(answer: Result<Answer, Fault>) -> (u32, usize)
     }
 }
 
-/// The number of a chain or a fault, and how many octets the chain has, or what its fault counts.
+/// Returns the number of a chain or a fault, and the number of octets of the chain or what the
+/// fault counts.
 pub(crate) fn chain_told(chain: Result<usize, Fault>) -> (u32, usize)
     ensures { result ≡ chain_told chain }
 {
@@ -60,7 +61,7 @@ pub(crate) fn chain_told(chain: Result<usize, Fault>) -> (u32, usize)
     }
 }
 
-/// Writes what is counted, and gives the number.
+/// Writes the count, and returns the number.
 pub(crate) fn tell(told: (u32, usize), count: &mut usize) -> u32
     ensures { (result, count.new) ≡ told }
 {

@@ -1,4 +1,4 @@
-//! The names of an NSEC3 chain of the records in octets that hash alike.
+//! Two names of the NSEC3 chain of a zone, given as octets, that have the same hash.
 ghost use Rattle.std.specs.Prelude.{◌≡◌};
 ghost use Rattle.denial_c.specs.{Numbers.collision_number, Chains.{config_by, IsCollisionResult}};
 
@@ -12,16 +12,15 @@ use domain_hasher::Nsec3HashError;
 use domain_sha1::Sha1Hasher;
 use std::alloc::Global;
 
-/// Whether two names of the NSEC3 chain of the records of the class that the octets are hash alike.
-/// Where some do, the first in canonical order that has the hash of one before it is written to the
-/// buffer of the later name, and the first that has its hash to that of the earlier one, both in
-/// lower case.
+/// Returns whether two names of the NSEC3 chain of the records of the class in `records` have the
+/// same hash. If so, writes the first name in canonical order that has the hash of an earlier one
+/// to `later`, and the first name that has its hash to `earlier`. Both are in lower case.
 ///
 /// # Errors
 ///
-/// The first that stands: `Apex`; `LongSalt`; `NoRecord` or `Class`, whichever comes first in the
-/// octets; and `OutOfMemory`. Other faults of the zone are not looked for. Without an answer both
-/// buffers stay as they were.
+/// The first that applies: `Apex`; `LongSalt`; `NoRecord` or `Class`, whichever comes first in the
+/// octets; and `OutOfMemory`. Other faults of the zone are not checked. If no names are written,
+/// both buffers stay as they were.
 #[tactic(auto, using(std::proofs::lemmas::Grind::common_steps, crate::proofs::AmongLemmas::pair_found))]
 pub(crate) fn collision(
     alloc: Global,
@@ -43,7 +42,7 @@ pub(crate) fn collision(
     let found = match first_alike(alloc, &apex, &sorted, &config, &Sha1Hasher) {
         Ok(found) => found,
         Err(Nsec3HashError::OutOfMemory) => return Err(Fault::OutOfMemory),
-        // SHA-1 refuses no name, so that there is no other error.
+        // SHA-1 fails for no name, so there is no other error.
         Err(_) => unreachable!(),
     };
     let Some(alike) = found else {
@@ -54,7 +53,7 @@ pub(crate) fn collision(
     Ok(true)
 }
 
-/// The number of an answer.
+/// Returns the number of an answer.
 pub(crate) fn collision_number(answer: Result<bool, Fault>) -> u32
     ensures { result ≡ collision_number answer }
 {

@@ -1,4 +1,4 @@
-//! Why there is no answer, no verdict or no chain, and the numbers of that.
+//! The reasons why there is no answer, no verdict or no chain, and their numbers.
 ghost use Rattle.std.specs.Prelude.{◌≡◌};
 ghost use Rattle.denial_c.specs.{Numbers.{fault_number, fault_told}, Result.told_or_fault};
 ghost use Rattle.denial_c.specs.declared.fault.Fault.TheVariants.{OutOfMemory as memory};
@@ -6,21 +6,21 @@ ghost use Rattle.denial_c.specs.declared.fault.Fault.TheVariants.{OutOfMemory as
 use domain_hasher::Nsec3HashError;
 use domain_octets::OutOfMemory;
 
-/// Why there is no answer, no verdict or no chain.
+/// The reason why there is no answer, no verdict or no chain.
 #[derive(Clone, Copy, Debug, PartialEq, Eq)]
 pub(crate) enum Fault {
-    /// The octets of the apex are no name.
+    /// The octets of the apex do not encode a name.
     Apex,
-    /// The octets of the name that is asked for are no name.
+    /// The octets of the name do not encode a name.
     Name,
-    /// The octets of the records are no records, or those of a record that counts no data of its
-    /// type.
+    /// The octets of the records do not encode records, or a record that counts has data that do
+    /// not encode its type.
     Records,
-    /// From this offset on the octets are no record.
+    /// The octets from this offset on do not encode a record.
     NoRecord(usize),
     /// The apex has not exactly one NSEC3PARAM record.
     Param,
-    /// The hasher refuses to hash a name.
+    /// The hasher fails for a name.
     Hasher,
     /// There is not enough memory.
     OutOfMemory,
@@ -29,20 +29,20 @@ pub(crate) enum Fault {
     /// The apex does not own exactly one SOA record.
     Soa,
     /// Records of one owner and one type differ in their TTLs; the one at this offset has another
-    /// than those before it.
+    /// TTL than those before it.
     Ttls(usize),
-    /// The chain has so many octets, for which there is no room.
+    /// The chain has this number of octets, and the buffer has no room for it.
     ShortBuffer(usize),
     /// The salt has over 255 octets.
     LongSalt,
-    /// The owner of a hash would be longer than a name may be.
+    /// The owner name that a hash makes would be longer than a name may be.
     LongOwner,
-    /// Two names have one hash.
+    /// Two names have the same hash.
     Collision,
 }
 
-/// What a check tells. Its errors are want of memory, and names that the hasher refuses; it has no
-/// others.
+/// Returns what a check returns. Its only errors are out of memory, and names for which the hasher
+/// fails.
 pub(crate) fn told_or_fault<V>(told: Result<V, Nsec3HashError>) -> Result<V, Fault>
     ensures { result ≡ told_or_fault told }
 {
@@ -61,8 +61,8 @@ impl From<OutOfMemory> for Fault {
     }
 }
 
-/// The number of a fault, and what it counts: the offset where it stands, or the octets that there
-/// is no room for. 0 where it counts nothing.
+/// Returns the number of a fault, and what it counts: the offset of the record, or the number of
+/// octets that do not fit. 0 if it counts nothing.
 pub(crate) fn fault_told(fault: Fault) -> (u32, usize)
     ensures { result ≡ fault_told fault }
 {
@@ -84,7 +84,7 @@ pub(crate) fn fault_told(fault: Fault) -> (u32, usize)
     }
 }
 
-/// The number of a fault.
+/// Returns the number of a fault.
 pub(crate) fn fault_number(fault: Fault) -> u32
     ensures { result ≡ fault_number fault }
 {

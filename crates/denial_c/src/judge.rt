@@ -1,4 +1,4 @@
-//! What the NSEC or NSEC3 records in octets answer as a whole.
+//! What the NSEC or NSEC3 records in octets answer to a question as a whole.
 ghost use Rattle.denial_c.specs.Result.{source_of, IsExpansionAnswer, IsNsecAnswer, IsNsec3Answer};
 
 use crate::among::records_among;
@@ -13,8 +13,7 @@ use domain_checker::Nsec3Index;
 use domain_sha1::Sha1Hasher;
 use std::alloc::Global;
 
-/// What the NSEC records of the class among the records that the octets are answer to the name and
-/// the type.
+/// Returns what the NSEC records of the class in `records` answer for the name and the type.
 #[tactic(auto, using(std::proofs::lemmas::Grind::common_steps, crate::proofs::AmongLemmas::nsecs_fault, std::proofs::lemmas::Result::err_from_is_err_and))]
 pub(crate) fn nsec_answer(
     alloc: Global,
@@ -32,8 +31,8 @@ pub(crate) fn nsec_answer(
     Ok(judge_nsec(&apex, &nsecs, &name, Rtype::from_int(rtype)))
 }
 
-/// What the NSEC3 records of the class among the records that the octets are answer to the name and
-/// the type, with at most so many iterations.
+/// Returns what the NSEC3 records of the class in `records` answer for the name and the type, with
+/// at most `limit` iterations.
 #[tactic(auto, using(std::proofs::lemmas::Grind::common_steps, crate::proofs::AmongLemmas::hashed_told))]
 pub(crate) fn nsec3_answer(
     alloc: Global,
@@ -54,9 +53,9 @@ pub(crate) fn nsec3_answer(
     told_or_fault(judge_nsec3_index(alloc, &index, &name, rtype, limit, &Sha1Hasher))
 }
 
-/// What the NSEC3 records of the class among the records that the octets are answer of the name,
-/// whose records were expanded from a wildcard and have signatures with so many labels, with at
-/// most so many iterations.
+/// Returns what the NSEC3 records of the class in `records` answer for a name whose records were
+/// expanded from a wildcard, with at most `limit` iterations. `rrsig_labels` is the Labels field of
+/// their signatures.
 #[tactic(auto, using(std::proofs::lemmas::Grind::common_steps, crate::proofs::AmongLemmas::hashed_told))]
 pub(crate) fn expansion_answer(
     alloc: Global,

@@ -1,11 +1,12 @@
-//! Denial for C: what the NSEC or NSEC3 records of a message answer to a question about a name and
-//! a type as a whole, and what they prove of one name and one type (RFC 4035, section 5.4; RFC
-//! 5155, section 8).
+//! Denial of existence for C (RFC 4035, section 5.4; RFC 5155, section 8). The functions return
+//! what the NSEC or NSEC3 records of a message answer to a question as a whole, and what they prove
+//! about one name and one type. Others make the chains of a zone.
 //!
-//! Names and records are handed in as octets, as a message has them but without compression. Each
-//! function says what `judge_nsec`, `judge_nsec3` or `judge_nsec3_expansion` of `domain_answer`, or
-//! `check_nsec` or `check_nsec3` of `domain_checker`, says of the records that the octets are, or
-//! why there is no such answer. `include/denial.h` describes the functions and their numbers for C.
+//! Names and records are passed as octets, in wire format without compression. Each function that
+//! judges or checks returns what `judge_nsec`, `judge_nsec3` or `judge_nsec3_expansion` of
+//! `domain_answer`, or `check_nsec` or `check_nsec3` of `domain_checker`, returns for these
+//! records, or the reason why there is none. `include/denial.h` describes the functions and their
+//! numbers for C.
 #![tactic(auto)]
 
 ghost use Rattle.std.specs.Prelude.{◌≡◌, false};
@@ -39,8 +40,8 @@ use domain_base::MAX_NAME;
 use domain_nsec::GenerateNsecConfig;
 use std::alloc::Global;
 
-/// The version of the library: 10000 times its major number, 100 times its minor number, and its
-/// patch.
+/// Returns the version of the library: 10000 times its major number, plus 100 times its minor
+/// number, plus its patch number.
 #[unsafe(no_mangle)]
 pub extern "C" fn denial_version() -> u32
     ensures { result ≡ 600 }
@@ -48,7 +49,7 @@ pub extern "C" fn denial_version() -> u32
     600
 }
 
-/// Hands out the text of a number, and octets 0 after it. A number that no function here gives has
+/// Lends the text of a number, followed by zero octets. A number that no function here returns has
 /// a text that says so.
 #[unsafe(no_mangle)]
 pub extern "C" fn denial_find_text(number: u32, text: &mut &'static [u8; ROOM])
@@ -57,10 +58,8 @@ pub extern "C" fn denial_find_text(number: u32, text: &mut &'static [u8; ROOM])
     *text = text::text_of(number);
 }
 
-/// What NSEC records answer to a question about a name and a type, as a whole.
-///
-/// Gives the number of an answer, and the number of labels that it counts, where it counts any; or
-/// the number of a fault.
+/// Returns what NSEC records answer to a question about a name and a type, as a whole: the number
+/// of an answer, or of a fault. Writes the number of labels that the answer counts, or 0.
 #[unsafe(no_mangle)]
 pub extern "C" fn denial_judge_nsec(
     alloc: Global,
@@ -78,12 +77,12 @@ pub extern "C" fn denial_judge_nsec(
     tell(answer_told(answer), labels)
 }
 
-/// What NSEC3 records answer to a question about a name and a type, as a whole, with the one
-/// NSEC3PARAM record of the apex among them. Where that has more iterations than the limit, nothing
-/// is hashed.
+/// Returns what NSEC3 records answer to a question about a name and a type, as a whole. The records
+/// include the one NSEC3PARAM record of the apex. If that has more iterations than the limit,
+/// nothing is hashed.
 ///
-/// Gives the number of an answer, and the number of labels that it counts, where it counts any; or
-/// the number of a fault.
+/// Returns the number of an answer or of a fault. Writes the number of labels that the answer
+/// counts, or 0.
 #[unsafe(no_mangle)]
 pub extern "C" fn denial_judge_nsec3(
     alloc: Global,
@@ -103,14 +102,13 @@ pub extern "C" fn denial_judge_nsec3(
     tell(answer_told(answer), labels)
 }
 
-/// What NSEC3 records answer to a question about a name and a type, as a whole, with no NSEC3PARAM
-/// record among them: the first of the NSEC3 records tells the parameters. Those that are of
-/// another zone, or have another hash algorithm than SHA-1 or a flag beside that of opt-out, are
-/// passed over (RFC 5155, sections 8.1 and 8.2). Where the first has more iterations than the
-/// limit, nothing is hashed.
+/// Returns what NSEC3 records answer to a question about a name and a type, as a whole, without an
+/// NSEC3PARAM record: the first of the NSEC3 records has the parameters. Records of another zone,
+/// with a hash algorithm other than SHA-1, or with a flag other than opt-out are ignored (RFC 5155,
+/// sections 8.1 and 8.2). If the first has more iterations than the limit, nothing is hashed.
 ///
-/// Gives the number of an answer, and the number of labels that it counts, where it counts any; or
-/// the number of a fault.
+/// Returns the number of an answer or of a fault. Writes the number of labels that the answer
+/// counts, or 0.
 #[unsafe(no_mangle)]
 pub extern "C" fn denial_judge_nsec3_alone(
     alloc: Global,
@@ -130,13 +128,13 @@ pub extern "C" fn denial_judge_nsec3_alone(
     tell(answer_told(answer), labels)
 }
 
-/// What NSEC3 records answer of a name whose records were expanded from a wildcard, with the one
-/// NSEC3PARAM record of the apex among them (RFC 5155, section 8.8). `rrsig_labels` is the field
-/// Labels of the signatures of those records (RFC 4034, section 3.1.3). Where the NSEC3PARAM record
-/// has more iterations than the limit, nothing is hashed.
+/// Returns what NSEC3 records answer for a name whose records were expanded from a wildcard (RFC
+/// 5155, section 8.8). The records include the one NSEC3PARAM record of the apex. `rrsig_labels` is
+/// the Labels field of the signatures of the expanded records (RFC 4034, section 3.1.3). If the
+/// NSEC3PARAM record has more iterations than the limit, nothing is hashed.
 ///
-/// Gives the number of an answer, and the number of labels that it counts, where it counts any; or
-/// the number of a fault.
+/// Returns the number of an answer or of a fault. Writes the number of labels that the answer
+/// counts, or 0.
 #[unsafe(no_mangle)]
 pub extern "C" fn denial_judge_nsec3_expansion(
     alloc: Global,
@@ -156,12 +154,12 @@ pub extern "C" fn denial_judge_nsec3_expansion(
     tell(answer_told(answer), labels)
 }
 
-/// What NSEC3 records answer of a name whose records were expanded from a wildcard, with no
-/// NSEC3PARAM record among them: the first of the NSEC3 records tells the parameters, and the same
-/// are passed over as by `denial_judge_nsec3_alone`.
+/// Returns what NSEC3 records answer for a name whose records were expanded from a wildcard,
+/// without an NSEC3PARAM record: the first of the NSEC3 records has the parameters.
+/// `denial_judge_nsec3_alone` says which records are ignored.
 ///
-/// Gives the number of an answer, and the number of labels that it counts, where it counts any; or
-/// the number of a fault.
+/// Returns the number of an answer or of a fault. Writes the number of labels that the answer
+/// counts, or 0.
 #[unsafe(no_mangle)]
 pub extern "C" fn denial_judge_nsec3_expansion_alone(
     alloc: Global,
@@ -181,10 +179,10 @@ pub extern "C" fn denial_judge_nsec3_expansion_alone(
     tell(answer_told(answer), labels)
 }
 
-/// What NSEC records prove of a name and a type. Takes no memory.
+/// Returns what NSEC records prove about a name and a type. Does not allocate.
 ///
-/// Gives the number of a verdict, and the number of labels of the closest encloser where the
-/// verdict has one; or the number of a fault.
+/// Returns the number of a verdict or of a fault. Writes the number of labels of the closest
+/// encloser, or 0 if the verdict has none.
 #[unsafe(no_mangle)]
 pub extern "C" fn denial_check_nsec(
     apex: &[u8],
@@ -201,11 +199,11 @@ pub extern "C" fn denial_check_nsec(
     tell(verdict_told(verdict), labels)
 }
 
-/// What NSEC3 records prove of a name and a type, with the one NSEC3PARAM record of the apex among
-/// them.
+/// Returns what NSEC3 records prove about a name and a type. The records include the one NSEC3PARAM
+/// record of the apex.
 ///
-/// Gives the number of a verdict, and the number of labels of the closest encloser where the
-/// verdict has one; or the number of a fault.
+/// Returns the number of a verdict or of a fault. Writes the number of labels of the closest
+/// encloser, or 0 if the verdict has none.
 #[unsafe(no_mangle)]
 pub extern "C" fn denial_check_nsec3(
     alloc: Global,
@@ -223,12 +221,12 @@ pub extern "C" fn denial_check_nsec3(
     tell(verdict_told(verdict), labels)
 }
 
-/// What NSEC3 records prove of a name and a type, with no NSEC3PARAM record among them: the first
-/// of the NSEC3 records tells the parameters, and the same are passed over as by
-/// `denial_judge_nsec3_alone`.
+/// Returns what NSEC3 records prove about a name and a type, without an NSEC3PARAM record: the
+/// first of the NSEC3 records has the parameters. `denial_judge_nsec3_alone` says which records are
+/// ignored.
 ///
-/// Gives the number of a verdict, and the number of labels of the closest encloser where the
-/// verdict has one; or the number of a fault.
+/// Returns the number of a verdict or of a fault. Writes the number of labels of the closest
+/// encloser, or 0 if the verdict has none.
 #[unsafe(no_mangle)]
 pub extern "C" fn denial_check_nsec3_alone(
     alloc: Global,
@@ -249,9 +247,9 @@ pub extern "C" fn denial_check_nsec3_alone(
 /// Writes the NSEC chain of a zone into the buffer, its records one after another in canonical
 /// order, without compression.
 ///
-/// Gives 48, and the number of octets of the chain; or the number of a fault, and what it counts:
-/// the offset of the record where it stands, or the octets that there is no room for. The buffer
-/// then stays as it was.
+/// Returns 48, and writes the number of octets of the chain to `count`. Or returns the number of a
+/// fault, and writes what it counts: the offset of the record, or the number of octets that do not
+/// fit. The buffer then stays as it was.
 #[unsafe(no_mangle)]
 pub extern "C" fn denial_nsec_chain(
     alloc: Global,
@@ -278,12 +276,11 @@ pub extern "C" fn denial_nsec_chain(
 }
 
 /// Writes the NSEC3 chain of a zone into the buffer, its records one after another in the order of
-/// their hashes, without compression, and its NSEC3PARAM record after them. Names are hashed by
-/// SHA-1.
+/// their hashes, without compression, and then its NSEC3PARAM record. Names are hashed with SHA-1.
 ///
-/// Gives 48, and the number of octets of the chain; or the number of a fault, and what it counts:
-/// the offset of the record where it stands, or the octets that there is no room for. The buffer
-/// then stays as it was.
+/// Returns 48, and writes the number of octets of the chain to `count`. Or returns the number of a
+/// fault, and writes what it counts: the offset of the record, or the number of octets that do not
+/// fit. The buffer then stays as it was.
 #[unsafe(no_mangle)]
 pub extern "C" fn denial_nsec3_chain(
     alloc: Global,
@@ -314,13 +311,13 @@ pub extern "C" fn denial_nsec3_chain(
     tell(chain_told(made), count)
 }
 
-/// The two names for which a zone has no NSEC3 chain, since they hash alike: the first name of the
-/// chain, in canonical order, that has the hash of one before it, and the first that has its hash.
-/// Both are written to the beginning of their buffers in wire form and in lower case. Names are
-/// hashed by SHA-1. Other faults of the zone are not looked for.
+/// Writes the two names because of which a zone has no NSEC3 chain, since they have the same hash:
+/// the first name of the chain, in canonical order, that has the hash of an earlier one, and the
+/// first name that has its hash. Both are written to the beginning of their buffers in wire format
+/// and in lower case. Names are hashed with SHA-1. Other faults of the zone are not checked.
 ///
-/// Gives 28 with both names, or 49 where no two names of the chain hash alike; or the number of a
-/// fault. Without names the buffers stay as they were.
+/// Returns 28 with both names, or 49 if no two names of the chain have the same hash, or the number
+/// of a fault. If no names are written, the buffers stay as they were.
 #[unsafe(no_mangle)]
 pub extern "C" fn denial_nsec3_collision(
     alloc: Global,

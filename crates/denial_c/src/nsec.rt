@@ -13,7 +13,7 @@ use domain_borrowed::{ReadAs, ReadNsec};
 use domain_checker::{NsecCheck, Verdict};
 use domain_octets::Parser;
 
-/// The name that the octets are. Refuses, with the fault, octets that are none.
+/// Returns the name that octets encode. Rejects, with `fault`, octets that do not encode a name.
 pub(crate) fn read_name(octets: &[u8], fault: Fault) -> Result<ParsedName<'_>, Fault>
     ensures ok { IfOk result (Spells octets.now) }
     ensures err { IfErr result (λ e. (e ≡ fault) × (IsSpelled octets.now → ⊥)) }
@@ -28,8 +28,8 @@ pub(crate) fn read_name(octets: &[u8], fault: Fault) -> Result<ParsedName<'_>, F
     }
 }
 
-/// Hands in the NSEC records of the class among the records that the octets are. Refuses octets
-/// that are no records, and NSEC records whose data are none; some are handed in then.
+/// Adds the NSEC records of the class in `octets` to a check. Rejects octets that do not encode
+/// records, and NSEC records whose data are malformed; some records may be added then.
 fn hand_in(
     check: &mut NsecCheck<'_>,
     apex: &ParsedName<'_>,
@@ -57,8 +57,8 @@ fn hand_in(
     Ok(())
 }
 
-/// What the NSEC records of the class among the records that the octets are prove of the name and
-/// the type. Takes no memory.
+/// Returns what the NSEC records of the class in `records` prove about the name and the type. Does
+/// not allocate.
 pub(crate) fn nsec_verdict(
     apex: &[u8],
     name: &[u8],

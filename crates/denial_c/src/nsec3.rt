@@ -19,7 +19,7 @@ use domain_record::Record;
 use domain_sha1::Sha1Hasher;
 use std::alloc::Global;
 
-/// What tells the parameters of hashes.
+/// The source of the parameters of the hashes.
 #[derive(Clone, Copy)]
 pub(crate) enum Telling {
     /// The one NSEC3PARAM record of the apex.
@@ -28,7 +28,7 @@ pub(crate) enum Telling {
     ByFirst,
 }
 
-/// The one NSEC3PARAM record of the apex and the class among the records that the octets are.
+/// Returns the one NSEC3PARAM record of the apex and the class in `octets`.
 fn param_among<'a>(
     alloc: Global,
     apex: &ParsedName<'_>,
@@ -49,8 +49,7 @@ fn param_among<'a>(
     Ok(param)
 }
 
-/// The NSEC3 records of the class among the records that the octets are, with the one NSEC3PARAM
-/// record of the apex.
+/// Returns the NSEC3 records of the class in `octets`, with the one NSEC3PARAM record of the apex.
 fn chain_among<'a>(
     alloc: Global,
     apex: &ParsedName<'_>,
@@ -66,8 +65,8 @@ fn chain_among<'a>(
     Ok(Nsec3Records::new(nsec3s, param))
 }
 
-/// Whether the record is of the zone, its algorithm is SHA-1, and none of its flags is set but that
-/// of opt-out: others are to be ignored (RFC 5155, sections 8.1 and 8.2).
+/// Returns whether the record is of the zone, its algorithm is SHA-1, and it has no flag other than
+/// opt-out. Other records must be ignored (RFC 5155, sections 8.1 and 8.2).
 fn is_known(apex: &ParsedName<'_>, nsec3: &ReadNsec3<'_>) -> bool
     ensures { result ≡ is_known apex.now (as_hashed_link (λ n. n) nsec3.now) }
 {
@@ -77,7 +76,7 @@ fn is_known(apex: &ParsedName<'_>, nsec3: &ReadNsec3<'_>) -> bool
         & nsec3.owner().ends_with(apex)
 }
 
-/// These NSEC3 records, without those that are to be ignored. Takes no memory.
+/// Returns these NSEC3 records without those that must be ignored. Does not allocate.
 fn known_of<'a>(apex: &ParsedName<'_>, mut nsec3s: Vec<ReadNsec3<'a>>) -> Vec<ReadNsec3<'a>>
     ensures { hashed_links_of (λ n. n) result.items
         ≡ filter (is_known apex.now) (hashed_links_of (λ n. n) nsec3s.entry.items) }
@@ -86,8 +85,8 @@ fn known_of<'a>(apex: &ParsedName<'_>, mut nsec3s: Vec<ReadNsec3<'a>>) -> Vec<Re
     nsec3s
 }
 
-/// The parameters of the first of these records; SHA-1, no iterations and no salt where there is
-/// none.
+/// Returns the parameters of the first of these records, or SHA-1, no iterations and no salt
+/// without records.
 fn first_params<'a>(
     alloc: Global,
     nsec3s: &[ReadNsec3<'a>],
@@ -103,8 +102,8 @@ fn first_params<'a>(
     Ok(Nsec3param::new(hashed.hash_algorithm(), 0, hashed.iterations(), salt))
 }
 
-/// The NSEC3 records of the class among the records that the octets are, but for those that are to
-/// be ignored, with an NSEC3PARAM record of the apex that repeats the parameters of the first.
+/// Returns the NSEC3 records of the class in `octets`, without those that must be ignored. Makes an
+/// NSEC3PARAM record of the apex that repeats the parameters of the first.
 #[tactic(auto, using(crate::proofs::AmongLemmas::first_by_sha1))]
 fn alone_among<'a>(
     alloc: Global,
@@ -128,7 +127,7 @@ fn alone_among<'a>(
     Ok(Nsec3Records::new(known, param))
 }
 
-/// The NSEC3 records of the class among the records that the octets are, with their parameters.
+/// Returns the NSEC3 records of the class in `octets`, with their parameters.
 pub(crate) fn chain_told<'a>(
     alloc: Global,
     telling: Telling,
@@ -146,8 +145,7 @@ pub(crate) fn chain_told<'a>(
     }
 }
 
-/// What the NSEC3 records of the class among the records that the octets are prove of the name and
-/// the type.
+/// Returns what the NSEC3 records of the class in `records` prove about the name and the type.
 #[tactic(auto, using(std::proofs::lemmas::Grind::common_steps, crate::proofs::AmongLemmas::hashed_told))]
 pub(crate) fn nsec3_verdict(
     alloc: Global,

@@ -1,4 +1,4 @@
-//! The NSEC3 chain of the records in octets.
+//! Makes the NSEC3 chain of records in octets.
 ghost use Rattle.std.specs.Prelude.{◌≡◌, ◌≤◌, ◌<◌, length, IfErr, IfOk};
 ghost use Rattle.domain_nsec3.specs.View.{config_of};
 ghost use Rattle.domain_nsec3.specs.declared.config.Nsec3ParamTtlMode.TheVariants.{Soa};
@@ -22,26 +22,27 @@ use domain_records::{InPlaceSorter, RecordsIter, SigningError};
 use domain_sha1::Sha1Hasher;
 use std::alloc::Global;
 
-/// How a chain is made of names that are hashed by SHA-1.
+/// How a chain is made, with names hashed by SHA-1.
 #[derive(Clone, Copy)]
 pub(crate) struct Hashing<'a> {
-    /// How often a hash is taken again (RFC 5155, section 3.1.3).
+    /// The number of additional iterations of the hash (RFC 5155, section 3.1.3).
     pub iterations: u16,
-    /// What is hashed after a name (RFC 5155, section 3.1.5).
+    /// The salt, which is hashed after a name (RFC 5155, section 3.1.5).
     pub salt: &'a [u8],
-    /// Whether unsigned delegations are left out, and the records say so (RFC 5155, section 6).
+    /// Whether unsigned delegations are left out, and the records have the opt-out flag (RFC 5155,
+    /// section 6).
     pub opt_out: bool,
-    /// Whether the apex gets DNSKEY records.
+    /// Whether the apex will have DNSKEY records.
     pub assume_dnskey: bool,
     /// Whether names below the owner of a DNAME record are left out.
     pub occlude_below_dname: bool,
 }
 
-/// How a chain is made.
+/// Returns the configuration of a chain.
 ///
 /// # Errors
 ///
-/// `LongSalt` exactly where the salt has over 255 octets.
+/// `LongSalt` if and only if the salt has over 255 octets.
 pub(crate) fn config_with<'a>(
     hashing: Hashing<'a>,
 ) -> Result<GenerateNsec3Config<&'a [u8], InPlaceSorter>, Fault>
@@ -62,8 +63,8 @@ pub(crate) fn config_with<'a>(
     Ok(config)
 }
 
-/// Why names have no hashes of use. SHA-1 refuses no name, and its hashes have 20 octets, so that
-/// there are no other reasons than these two.
+/// Converts an error of hashing. SHA-1 fails for no name, and its hashes have 20 octets, so there
+/// are only these two.
 fn hashing_fault(error: Nsec3HashError) -> Fault
     ensures { result ≡ hashing_fault error }
 {
@@ -73,13 +74,13 @@ fn hashing_fault(error: Nsec3HashError) -> Fault
     }
 }
 
-/// The octets of the NSEC3 chain of the zone that sorted records of one class are, which the octets
-/// are in another order.
+/// Makes the NSEC3 chain of the zone with these sorted records of one class, and returns its
+/// octets. `octets` encode the same records in any order.
 ///
 /// # Errors
 ///
 /// The first fault of the zone: `Soa`, `Ttls`, `LongOwner` or `Collision`; and `OutOfMemory`, only
-/// where neither of the first two stands.
+/// if the zone has neither of the first two.
 #[tactic(auto, using(std::proofs::lemmas::Grind::common_steps))]
 fn sorted_nsec3s(
     alloc: Global,
@@ -118,14 +119,14 @@ fn sorted_nsec3s(
     }
 }
 
-/// Writes the NSEC3 chain of the records of the class that the octets are, and its NSEC3PARAM
-/// record, into the buffer, and gives the number of their octets.
+/// Writes the NSEC3 chain of the records of the class in `records`, and its NSEC3PARAM record, into
+/// the buffer, and returns the number of their octets.
 ///
 /// # Errors
 ///
-/// The first that stands: `Apex`; `LongSalt`; `NoRecord` or `Class`, whichever comes first in the
+/// The first that applies: `Apex`; `LongSalt`; `NoRecord` or `Class`, whichever comes first in the
 /// octets; `Soa`, `Ttls`, `LongOwner` or `Collision`, the first fault of the zone; `OutOfMemory`,
-/// which leaves the last four open; and `ShortBuffer`. The buffer stays as it was.
+/// which may hide the last four; and `ShortBuffer`. The buffer then stays as it was.
 #[tactic(auto, using(std::proofs::lemmas::Grind::common_steps, crate::proofs::AmongLemmas::chain_fault, crate::proofs::AmongLemmas::chain_result))]
 pub(crate) fn nsec3_chain(
     alloc: Global,

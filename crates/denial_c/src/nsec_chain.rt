@@ -1,4 +1,4 @@
-//! The NSEC chain of the records in octets.
+//! Makes the NSEC chain of records in octets.
 ghost use Rattle.std.specs.Prelude.{◌≡◌, ◌<◌, length, IfErr, IfOk};
 ghost use Rattle.denial_c.specs.Chains.{nsec_making, AreSorted, IsChainResult, IsSortedFault, IsWritten};
 ghost use Rattle.denial_c.specs.declared.fault.Fault.TheVariants as fault;
@@ -14,12 +14,12 @@ use domain_nsec::{GenerateNsecConfig, NsecChain};
 use domain_records::{RecordsIter, SigningError};
 use std::alloc::Global;
 
-/// The octets of the NSEC chain of the zone that sorted records of one class are, which the octets
-/// are in another order.
+/// Makes the NSEC chain of the zone with these sorted records of one class, and returns its octets.
+/// `octets` encode the same records in any order.
 ///
 /// # Errors
 ///
-/// `Soa` or `Ttls`, the first fault of the zone; and `OutOfMemory`, only where it has none.
+/// `Soa` or `Ttls`, the first fault of the zone; and `OutOfMemory`, only if it has none.
 #[tactic(auto, using(domain_zone::proofs::GivenLemmas::none_left_out))]
 fn sorted_nsecs(
     alloc: Global,
@@ -54,12 +54,12 @@ fn sorted_nsecs(
     }
 }
 
-/// Writes octets to the beginning of the buffer, and gives their number.
+/// Writes octets to the beginning of the buffer, and returns their number.
 ///
 /// # Errors
 ///
-/// `ShortBuffer` with their number exactly where there is no room for them; the buffer stays as it
-/// was.
+/// `ShortBuffer` with their number if and only if the buffer has no room for them; the buffer stays
+/// as it was.
 pub(crate) fn write_octets(octets: &[u8], buffer: &mut [u8]) -> Result<usize, Fault>
     ensures ok { IfOk result (IsWritten octets.now buffer.old buffer.new) }
     ensures err { IfErr result (λ e. (e ≡ fault.ShortBuffer (length octets.now))
@@ -74,14 +74,14 @@ pub(crate) fn write_octets(octets: &[u8], buffer: &mut [u8]) -> Result<usize, Fa
     Ok(count)
 }
 
-/// Writes the NSEC chain of the records of the class that the octets are into the buffer, and gives
-/// the number of its octets.
+/// Writes the NSEC chain of the records of the class in `records` into the buffer, and returns the
+/// number of its octets.
 ///
 /// # Errors
 ///
-/// The first that stands: `Apex`; `NoRecord` or `Class`, whichever comes first in the octets; `Soa`
-/// or `Ttls`, the first fault of the zone; `OutOfMemory`, which leaves the last two open; and
-/// `ShortBuffer`. The buffer stays as it was.
+/// The first that applies: `Apex`; `NoRecord` or `Class`, whichever comes first in the octets;
+/// `Soa` or `Ttls`, the first fault of the zone; `OutOfMemory`, which may hide the last two; and
+/// `ShortBuffer`. The buffer then stays as it was.
 #[tactic(auto, using(std::proofs::lemmas::Grind::common_steps, crate::proofs::AmongLemmas::chain_fault, crate::proofs::AmongLemmas::chain_result))]
 pub(crate) fn nsec_chain(
     alloc: Global,

@@ -1,4 +1,4 @@
-//! A question to NSEC3 records, as octets.
+//! A question to NSEC3 records, passed as octets.
 ghost use Rattle.std.specs.Prelude.{IfErr, IfOk};
 ghost use Rattle.denial_c.specs.Result.{as_question, source_of, AreAsked, IsNsec3Fault};
 
@@ -16,8 +16,7 @@ pub(crate) struct Question<'a> {
     pub(crate) chain: Nsec3Records<ParsedName<'a>, &'a [u8]>,
 }
 
-/// The question that the octets are: a name, below an apex, to the NSEC3 records of the class among
-/// these records.
+/// Reads a question: an apex, a name, and the NSEC3 records of the class in `records`.
 pub(crate) fn read_question<'a>(
     alloc: Global,
     telling: Telling,

@@ -1,10 +1,10 @@
 //! The texts of numbers.
 ghost use Rattle.denial_c.specs.Numbers.{text_of, IsText};
 
-/// How many octets a text has, with the octets 0 after it.
+/// The number of octets of a text with the zero octets after it.
 pub(crate) const ROOM: usize = 32;
 
-/// The text of a number, with octets 0 after it.
+/// Returns the text of a number, followed by zero octets.
 pub(crate) fn text_of(number: u32) -> &'static [u8; ROOM]
     ensures { IsText (text_of number) result.now }
 {

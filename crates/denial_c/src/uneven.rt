@@ -1,4 +1,4 @@
-//! Where records of one owner and type differ in TTL.
+//! Finds records of one owner and type that differ in TTL.
 ghost use Rattle.std.specs.Prelude.{◌≡◌, List, filter, true, false, IfNone, IfSome};
 ghost use Rattle.domain_borrowed.specs.Data.{RawRecord, zone_of_raw};
 ghost use Rattle.domain_records.specs.Order.{IsInOrder};
@@ -13,7 +13,7 @@ use domain_octets::Parser;
 use domain_records::RecordsIter;
 use domain_zone::{UnoccludedOwners, uneven_type};
 
-/// The records of one owner and one type.
+/// The key of an RRset: one owner and one type.
 #[derive(Drop)]
 pub(crate) struct RrsetKey<'a> {
     /// The owner, in any case.
@@ -22,10 +22,9 @@ pub(crate) struct RrsetKey<'a> {
     pub rtype: Rtype,
 }
 
-/// The first owner of a chain, in canonical order, with records of one type other than RRSIG that
-/// differ in TTL, and the first such type; None where there is none. Unsigned delegations are
-/// passed over where `excludes` says so, and names below the owner of a DNAME record where
-/// `below_dname` does.
+/// Returns the first owner of a chain, in canonical order, with records of one type other than
+/// RRSIG that differ in TTL, and the first such type. None if there is none. Unsigned delegations
+/// are skipped if `excludes`, and names below the owner of a DNAME record if `below_dname`.
 #[tactic(auto, using(std::proofs::lemmas::Grind::common_steps, crate::proofs::UnevenLemmas::walked_all, crate::proofs::UnevenLemmas::walked_clash, crate::proofs::UnevenLemmas::walked_first, crate::proofs::UnevenLemmas::walked_start))]
 fn uneven_set<'a>(
     apex: &'a ParsedName<'a>,
@@ -52,14 +51,14 @@ fn uneven_set<'a>(
     None
 }
 
-/// Whether the record is of this owner and this type.
+/// Returns whether the record is of this owner and this type.
 fn is_in_set(borrowed: &BorrowedRecord<'_>, set: &RrsetKey<'_>) -> bool
     ensures { result ≡ is_in_set set.now.owner set.now.rtype borrowed.now }
 {
     borrowed.owner().name_eq(&set.owner) & (borrowed.rtype() == set.rtype)
 }
 
-/// Whether there is a first TTL, and this is another.
+/// Returns whether there is a first TTL, and this one differs.
 fn is_other(first: Option<Ttl>, ttl: Ttl) -> bool
     ensures { result ≡ is_other first ttl }
 {
@@ -69,7 +68,7 @@ fn is_other(first: Option<Ttl>, ttl: Ttl) -> bool
     }
 }
 
-/// The offset of the first record of this owner and this type that has another TTL than those
+/// Returns the offset of the first record of this owner and this type whose TTL differs from those
 /// before it.
 #[tactic(auto, using(std::proofs::lemmas::Grind::common_steps, crate::proofs::UnevenLemmas::scanned_other, crate::proofs::UnevenLemmas::scanned_same))]
 fn uneven_offset(class: Class, octets: &[u8], set: &RrsetKey<'_>) -> usize
@@ -94,9 +93,9 @@ fn uneven_offset(class: Class, octets: &[u8], set: &RrsetKey<'_>) -> usize
     unreachable!()
 }
 
-/// Where the records that the octets are have unequal TTLs: the offset of the first record that has
-/// another TTL than those before it of its owner and type, which are the first of the chain that
-/// have several.
+/// Returns where records in `octets` have unequal TTLs: the offset of the first record whose TTL
+/// differs from those before it of its owner and type. These are the first of the chain with
+/// several TTLs.
 #[tactic(auto, using(crate::proofs::UnevenLemmas::clash_given))]
 pub(crate) fn uneven_at(
     apex: &ParsedName<'_>,

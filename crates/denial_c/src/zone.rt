@@ -1,4 +1,4 @@
-//! The records of a zone, as octets have them and sorted.
+//! The records of a zone, as octets and sorted.
 ghost use Rattle.std.specs.Prelude.{List, IfErr, IfOk, OnOk};
 ghost use Rattle.domain_borrowed.specs.Data.{RawRecord};
 ghost use Rattle.denial_c.specs.Chains.{AreSorted, IsGivenFault, AreGiven};
@@ -11,8 +11,8 @@ use domain_dnssec::sort_one_class;
 use domain_octets::{OutOfMemory, Parser};
 use std::alloc::Global;
 
-/// Refuses octets that are not records of the class, one after another. Gives their number, by
-/// which room is asked for. Takes no memory.
+/// Checks that octets encode records of the class, one after another, and returns their number,
+/// which is used to reserve memory. Does not allocate.
 fn check_records(class: Class, octets: &[u8]) -> Result<usize, Fault>
     ensures ok { OnOk result ((given : List RawRecord) × AreGiven class octets.now given) }
     ensures err { IfErr result (IsGivenFault class octets.now) }
@@ -32,7 +32,7 @@ fn check_records(class: Class, octets: &[u8]) -> Result<usize, Fault>
     Ok(count)
 }
 
-/// The records of the class that the octets are; room is asked for so many at first.
+/// Returns the records of the class in `octets`. Reserves memory for `count` records.
 #[tactic(auto, using(std::proofs::lemmas::Grind::common_steps, crate::proofs::AmongLemmas::past_more))]
 fn read_records<'a>(
     alloc: Global,
@@ -54,12 +54,12 @@ fn read_records<'a>(
     Ok(records)
 }
 
-/// The records of the class that the octets are, sorted; of equal ones the earliest is kept.
+/// Returns the records of the class in `octets`, sorted. Of equal records the earliest is kept.
 ///
 /// # Errors
 ///
-/// `NoRecord` or `Class`, whichever stands first in the octets; and `OutOfMemory`, which says that
-/// neither does.
+/// `NoRecord` or `Class`, whichever comes first in the octets; and `OutOfMemory`, only if neither
+/// applies.
 pub(crate) fn sorted_zone<'a>(
     alloc: Global,
     class: Class,

@@ -1,4 +1,4 @@
--- The answer to a command over the records that were read, in whatever order they came.
+-- The reply to a command over the records that were read, in any order.
 use Rattle.std.specs.Prelude.{◌≡◌, ◌⊎◌, true, false, List, None, Some}
 use Rattle.domain_octets.specs.Octets.{Octets}
 use Rattle.domain_names.specs.Name.{Name, Tokens}
@@ -18,18 +18,18 @@ use Rattle.denial_program.specs.{declared.fault.DenialFault.{DenialFault, TheVar
 abbrev pub Sorts : List RawRecord → List RawRecord → Type 0
 Sorts = SortsBy raw_view
 
--- why the records are not sorted: they are not of one class, or else there was no memory to make
--- them ready
+-- the reason why the records are not sorted: they are of several classes, or they are of one class
+-- and there was no memory to prepare them
 abbrev pub IsUnsorted : List RawRecord → DenialFault → Type 0
 IsUnsorted given fault = ((fault ≡ MixedClasses) × AreMixed given)
     ⊎ ((fault ≡ Unprepared prepare_error) × IsOneClass given)
 
--- a fault of a zone as the program tells it; want of memory for a chain is one of its own
+-- a fault of a zone as the program reports it; out of memory for a chain is a fault of its own
 abbrev pub fault_of_zone : SigningError → DenialFault
 fault_of_zone signing_error.OutOfMemory = OutOfMemory
 fault_of_zone e = Signing e
 
--- the answer is a chain that is such
+-- the reply is a chain with this property
 pub record IsReplyOf {K : Type 0} (reply : K → Reply) (is_such : K → Type 0) (answer : Reply)
     : Type 0 where
   pub made : K
@@ -43,14 +43,15 @@ HasNone is_why (Signing e) = is_why (chain_error.Signing e)
 HasNone is_why OutOfMemory = is_why chain_error.OutOfMemory
 HasNone is_why _ = ⊥
 
--- the answer is the NSEC chain of the records, as `GenerateNsecConfig::new` has it; there is none
+-- the reply is the NSEC chain of the records, with the configuration of `GenerateNsecConfig::new`;
+-- there is none
 abbrev pub IsNsecs : List RawRecord → Name → Reply → Type 0
 IsNsecs given apex = IsReplyOf Nsecs (IsChainOf raw_view given apex usual_config)
 
 abbrev pub HasNoNsecs : List RawRecord → Name → DenialFault → Type 0
 HasNoNsecs given apex = HasNone (HasNoChain raw_view given apex usual_config)
 
--- how the program makes an NSEC3 chain with these parameters: as `GenerateNsec3Config::new` has it
+-- the configuration of an NSEC3 chain with these parameters: that of `GenerateNsec3Config::new`
 abbrev pub usual_nsec3_config : HasherAnswer → Params → ChainConfig
 usual_nsec3_config answer p =
     record {
@@ -62,7 +63,7 @@ usual_nsec3_config answer p =
       occlude_below_dname = false;
     }
 
--- the answer is the NSEC3 chain of the records by this hasher, and its NSEC3PARAM record; there is
+-- the reply is the NSEC3 chain of the records with this hasher, and its NSEC3PARAM record; there is
 -- none
 abbrev pub IsNsec3s : HasherAnswer → List RawRecord → Name → Params → Reply → Type 0
 IsNsec3s answers given apex p =
@@ -79,19 +80,19 @@ IsAnswer answers (Chain apex (Some p)) given answer = IsNsec3s answers given ape
 IsAnswer answers (CheckNsec q) given answer = IsNsecVerdict given q answer
 IsAnswer answers (CheckNsec3 q) given answer = IsNsec3Verdict answers given q answer
 
--- there was no memory to make the records ready; or there is no answer, for this reason
+-- there was no memory to prepare the records; or there is no reply, for this reason
 abbrev pub IsUnmade : (DenialFault → Type 0) → DenialFault → Type 0
 IsUnmade has_none fault = (fault ≡ Unprepared prepare_error) ⊎ has_none fault
 
--- why there is no answer
+-- the reason why there is no reply
 abbrev pub HasNoAnswer : HasherAnswer → Command → List RawRecord → DenialFault → Type 0
 HasNoAnswer answers (Chain apex None) given fault = HasNoNsecs given apex fault
 HasNoAnswer answers (Chain apex (Some p)) given fault = HasNoNsec3s answers given apex p fault
 HasNoAnswer answers (CheckNsec q) given fault = fault ≡ OutOfMemory
 HasNoAnswer answers (CheckNsec3 q) given fault = HasNoNsec3Verdict answers given q fault
 
--- the words are a command, the lines give records, and this is its answer over them; it has none
--- over them, for this reason
+-- the arguments are a command, the lines give records, and this is the reply over them; there is
+-- none over them, for this reason
 abbrev pub Answers : HasherAnswer → Tokens → List Octets → Reply → Type 0
 Answers answers words lines answer =
     IsOver Asks (λ command given. IsAnswer answers command given answer) words lines

@@ -1,4 +1,4 @@
--- What the records of a chain that were read prove of a name and a type.
+-- What the records of a chain that were read prove about a name and a type.
 use Rattle.std.specs.Prelude.{ℕ, ◌≡◌, ◌≢◌, ◌⊎◌, ◌&&◌, ◌==◌, Bool, true, List, [], ◌∷◌, ◌++◌, codes, length, Ok}
 use Rattle.domain_octets.specs.Octets.{Octets}
 use Rattle.domain_base.specs.Types as rtypes
@@ -15,21 +15,23 @@ use Rattle.denial_program.specs.declared.{answer.Reply.Reply, command.Question.Q
 use Rattle.denial_program.specs.declared.fault.DenialFault.TheVariants.{OutOfMemory}
 use Rattle.denial_program.specs.declared.answer.Reply.TheVariants as answers
 
--- what records give, in their order: one thing each that is such, and none those that are not
+-- what records give, in their order: one value for each record that is related to one, and none for
+-- the others
 abbrev pub AreAmong : {K : Type 0} → (RawRecord → K → Type 0) → List RawRecord → List K → Type 0
 AreAmong Is [] kept = kept ≡ []
 AreAmong {K} Is (r ∷ rs) kept =
     ((k : K) × (others : List K) × (kept ≡ k ∷ others) × Is r k × AreAmong Is rs others)
     ⊎ (((k : K) → Is r k → ⊥) × AreAmong Is rs kept)
 
--- the record counts, and is the one that says this
+-- the record counts, and is the record of this value
 pub record IsOf {K : Type 0} (counts : RawRecord → Bool) (raw : K → RawRecord) (IsFit : K → Type 0)
     (r : RawRecord) (k : K) : Type 0 where
   pub counted : counts r ≡ true
   pub is : r ≡ raw k
   pub fits : IsFit k
 
--- the record is the NSEC record of the link, the NSEC3 record, this NSEC3PARAM record of the apex
+-- the record is the NSEC record of the link; the NSEC3 record of the link; this NSEC3PARAM record
+-- of the apex
 abbrev pub IsNsecOf : RawRecord → Link → Type 0
 IsNsecOf = IsOf (λ r. r.«data».rtype == rtypes.nsec) nsec_record IsNsec
 
@@ -51,7 +53,7 @@ AreNsec3s = AreAmong IsNsec3Of
 abbrev pub AreParams : Name → List RawRecord → List ParamRecord → Type 0
 AreParams apex = AreAmong (IsParamOf apex)
 
--- the answer is what the NSEC records prove of the question
+-- the reply is what the NSEC records prove about the question
 pub record IsNsecVerdict (given : List RawRecord) (q : Question) (answer : Reply) : Type 0 where
   pub links : List Link
   pub are : AreNsecs given links
@@ -59,7 +61,7 @@ pub record IsNsecVerdict (given : List RawRecord) (q : Question) (answer : Reply
   pub is : answer ≡ answers.Verdict q.name verdict
   pub checked : IsChecked links q.apex q.name q.rtype verdict
 
--- the apex has one NSEC3PARAM record, and the answer is what the NSEC3 records prove of the
+-- the apex has one NSEC3PARAM record, and the reply is what the NSEC3 records prove about the
 -- question with its parameters
 pub record IsNsec3Verdict (hashes : HasherAnswer) (given : List RawRecord) (q : Question)
     (answer : Reply) : Type 0 where
@@ -72,13 +74,13 @@ pub record IsNsec3Verdict (hashes : HasherAnswer) (given : List RawRecord) (q : 
   pub checked : IsHashedChecked (links_with q.apex param.parameters hashes links) q.name q.rtype
       (Ok verdict)
 
--- the apex has none or several NSEC3PARAM records
+-- the apex has no NSEC3PARAM record, or several
 pub record HasNoParam (apex : Name) (given : List RawRecord) : Type 0 where
   pub params : List ParamRecord
   pub are : AreParams apex given params
   pub others : length params ≢ 1
 
--- the hasher refuses a name, for the first reason of those that the records of the apex lead to
+-- the hasher fails for a name, for the first reason that the records of the apex lead to
 pub record IsRefusedBy (IsFirst : HashedRecords → ℕ → Type 0) (hashes : HasherAnswer)
     (given : List RawRecord) (apex : Name) (error : SigningError) : Type 0 where
   pub param : ParamRecord
@@ -89,22 +91,23 @@ pub record IsRefusedBy (IsFirst : HashedRecords → ℕ → Type 0) (hashes : Ha
   pub is : error ≡ Nsec3HashingError (Hasher reason)
   pub first : IsFirst (links_with apex param.parameters hashes links) reason
 
--- a name that is asked for
+-- the hasher fails for a name that is looked up
 abbrev pub IsRefused : HasherAnswer → List RawRecord → Question → SigningError → Type 0
 IsRefused hashes given q = IsRefusedBy (λ R. IsFirstRefusal R q.name) hashes given q.apex
 
--- why there is none: the apex has no NSEC3PARAM record, or more than one; or the hasher refuses
+-- the reason why there is no verdict: the apex has no NSEC3PARAM record, or several, or the hasher
+-- fails
 abbrev pub HasNoNsec3Verdict : HasherAnswer → List RawRecord → Question → DenialFault → Type 0
 HasNoNsec3Verdict hashes given q (Signing e) = IsRefused hashes given q e
 HasNoNsec3Verdict hashes given q Param = HasNoParam q.apex given
 HasNoNsec3Verdict hashes given q OutOfMemory = Unit {0}
 HasNoNsec3Verdict hashes given q _ = ⊥
 
--- the closest encloser that a count of labels tells, with its last dot
+-- the closest encloser with `count` labels, with its last dot
 abbrev pub encloser_text : Name → ℕ → Octets
 encloser_text name count = name_text (last_labels count name) ++ codes "."
 
--- what is printed
+-- the printed form of a verdict
 abbrev pub verdict_text : Name → Verdict → Octets
 verdict_text name verdicts.OutsideZone = codes "outside zone"
 verdict_text name verdicts.BelowDelegation = codes "below delegation"

@@ -1,4 +1,4 @@
--- When each fault comes, and what is printed of it.
+-- When each fault is reported, and what is printed of it.
 use Rattle.std.specs.{Prelude.{◌≡◌, ℕ, [], Option, Some, IfSome, ◌++◌, codes}, Fmt.decimal}
 use Rattle.domain_octets.specs.Octets.{Octets}
 use Rattle.domain_names.specs.Name.{Tokens}
@@ -6,9 +6,9 @@ use Rattle.denial_program.specs.{Command.{IsCommand, IsNoCommand}, declared.faul
 use Rattle.denial_program.specs.declared.{fault.DenialFault.TheVariants.{MixedClasses, Signing, Param, Write, OutOfMemory}, prepare.PrepareError.PrepareError}
 use Rattle.domain_records.specs.Text.{signing_error_text}
 
--- ---- When each fault comes.
+-- ---- When each fault is reported.
 
--- the one value of its type
+-- the only value of its type
 abbrev pub prepare_error : PrepareError
 prepare_error = record { reason = record {} }
 
@@ -19,7 +19,8 @@ IsReadingFault (Line n) = Unit {0}
 IsReadingFault (Unprepared e) = Unit {0}
 IsReadingFault _ = ⊥
 
--- a fault that comes only once all of the input has been read; want of memory may come at any time
+-- a fault that is only reported after all of the input has been read; memory may run out at any
+-- time
 abbrev pub IsAfterInput : DenialFault → Type 0
 IsAfterInput Usage = ⊥
 IsAfterInput Read = ⊥
@@ -27,12 +28,12 @@ IsAfterInput (Unprepared e) = ⊥
 IsAfterInput OutOfMemory = ⊥
 IsAfterInput _ = Unit {0}
 
--- where the octets of the input are known, none is left
+-- if the octets of the input are known, none are left
 abbrev pub IsReadToEnd : Option Octets → Option Octets → Type 0
 IsReadToEnd old new = IfSome old (λ octets. new ≡ Some [])
 
--- a fault of usage says that the words are no command; any other but want of memory for what comes
--- before the records are read, that they are one
+-- `Usage` says that the arguments are no command; any other fault, except out of memory before the
+-- records are read, says that they are one
 abbrev pub TellsUsage : Tokens → DenialFault → Type 0
 TellsUsage words Usage = IsNoCommand words
 TellsUsage words (Unprepared e) = Unit {0}
@@ -43,7 +44,7 @@ abbrev pub exit_status : DenialFault → ℕ
 exit_status Usage = 2
 exit_status _ = 1
 
--- a fault that comes before anything is written; want of memory may also come while writing
+-- a fault that is reported before anything is written; memory may also run out while writing
 abbrev pub IsBeforeOutput : DenialFault → Type 0
 IsBeforeOutput Write = ⊥
 IsBeforeOutput OutOfMemory = ⊥
@@ -58,7 +59,7 @@ IsOfRecords _ = ⊥
 
 -- ---- What the program prints on standard error.
 
--- of any fault
+-- the text of each fault
 abbrev pub fault_text : DenialFault → Octets
 fault_text Usage =
     codes "usage: denial nsec APEX | denial nsec3 APEX ITERATIONS SALT [optout]"

@@ -1,4 +1,4 @@
--- What the lines of a text give, and what is read of one.
+-- What the lines of a text give, and what is read of a line.
 use Rattle.std.specs.{Prelude.{◌≡◌, ◌⊎◌, ℕ, ◌+◌, Bool, nat_le, List, [], ◌∷◌, None, Option, Some, IfSome}, List.AllPass, Str.Lines.lines}
 use Rattle.domain_octets.specs.{Text.{tilde, words_of}, Octets.Octets}
 use Rattle.domain_names.specs.Name.{Tokens, Name}
@@ -15,25 +15,25 @@ is_plain octet = nat_le octet tilde
 abbrev pub IsPlain : Octets → Type 0
 IsPlain = AllPass is_plain
 
--- the line says nothing: it is blank, or a comment
+-- the line has no entry: it is blank, or a comment
 abbrev pub IsSkipped : Octets → Type 0
 IsSkipped line = IsNoEntry (words_of line)
 
--- the line is not skipped, holds no octet past `~`, and its words spell the record
+-- the line is not skipped, has no octet past `~`, and its words spell the record
 pub record IsLineOf {R : Type 0} (Spell : Tokens → R → Type 0) (line : Octets) (r : R) : Type 0
   where
     pub seen : IsSkipped line → ⊥
     pub plain : IsPlain line
     pub spelled : Spell (words_of line) r
 
--- the same of a record of octets, and of one with data of all types
+-- the same for a record of octets, and for one with data of all types
 abbrev pub IsLineRecord : Octets → RawRecord → Type 0
 IsLineRecord = IsLineOf LineText
 
 abbrev pub IsLineData : Octets → SpelledRecord → Type 0
 IsLineData = IsLineOf SpellsRecord
 
--- the lines give these, in order: one for each line that is not skipped, of which it is true
+-- the lines give these, in order: one for each line that is not skipped, related to it by is_of
 abbrev pub AreGiven : {R : Type 0} → (Octets → R → Type 0) → List Octets → List R → Type 0
 AreGiven is_of [] given = given ≡ []
 AreGiven {R} is_of (line ∷ more) given =
@@ -57,7 +57,7 @@ pub record IsBad (line : Octets) : Type 0 where
   pub seen : IsSkipped line → ⊥
   pub none : (r : RawRecord) → IsLineRecord line r → ⊥
 
--- the line of this number, counted from 1, is the lowest that is bad
+-- the line with this number, counted from 1, is the first bad line
 abbrev pub IsFirstBad : List Octets → ℕ → Type 0
 IsFirstBad [] number = ⊥
 IsFirstBad (line ∷ more) number =
@@ -71,14 +71,14 @@ Says line Nothing = IsSkipped line
 Says line (Record r) = IsLineRecord line r
 Says line Bad = IsBad line
 
--- why words are no record: there was no memory to tell, or what is missing or refused
+-- the reason why words are not a record: out of memory, or what is missing or malformed
 abbrev pub Refuses : Tokens → LineError → Type 0
 Refuses ws error = (error ≡ OutOfMemory)
     ⊎ RefusesEntry (λ (o : Octets). o) (λ (n : Name). n) None ws error
 
--- ---- Lines that are taken from an input, where its octets are known.
+-- ---- Lines that are taken from an input whose octets are known.
 
--- its first line is such, and the lines behind it are left
+-- its first line has this property, and the lines after it are left
 pub record TakesLine (old new : Option Octets) (is_such : Octets → Type 0) : Type 0 where
   pub taken : IfSome old (λ all. (line : Octets) × (rest : Octets) × (new ≡ Some rest)
       × (lines all ≡ line ∷ lines rest) × is_such line)

@@ -1,4 +1,4 @@
--- What a run promises that reads records, one a line, and prints what its words ask of them.
+-- The contract of a run that reads records, one a line, and prints what its arguments ask of them.
 use Rattle.std.specs.{Prelude.{◌≡◌, ◌⊎◌, ℕ, List, Option, Result, IfErr, IfSome, IsErrOf, MatchResult, OnOk}, Io.KnownBytes.Appends, Str.Lines.lines}
 use Rattle.domain_octets.specs.Octets.{Octets}
 use Rattle.domain_names.specs.Name.{Tokens}
@@ -6,16 +6,16 @@ use Rattle.domain_borrowed.specs.Data.{RawRecord}
 use Rattle.denial_program.specs.{Fault.{IsAfterInput, IsOfRecords, IsReadToEnd}, Listing.{Give, IsFirstBad}}
 use Rattle.denial_program.specs.declared.fault.DenialFault.{DenialFault, TheVariants.{Line, Write}}
 
--- the lowest line that is neither skipped nor a record is told, where one is; and all of the input
--- has been read before Ok, such a line or a later fault is answered: a fault of the reader comes
--- before them
+-- if a bad line is reported, it is the first line that is neither skipped nor a record; all of the
+-- input has been read before Ok, a bad line or a later fault is returned, since a fault of the
+-- reader comes before them
 pub record ReadsLines {R : Type 0} (old new : Option Octets) (result : Result R DenialFault)
     : Type 0 where
   pub line : (n : ℕ) → IsErrOf result (Line n) → IfSome old (λ bytes. IsFirstBad (lines bytes) n)
   pub end : MatchResult result (λ _. IsReadToEnd old new)
       (λ e. IsAfterInput e → IsReadToEnd old new)
 
--- a value that is such has been printed
+-- a value with this property has been printed
 pub record IsWritten {X : Type 0} (text_of : X → Octets) (is_such : X → Type 0)
     (old new : Option Octets) : Type 0 where
   pub made : X
@@ -27,7 +27,7 @@ abbrev pub IsUnwritten : {X : Type 0} → (X → Type 0) → (DenialFault → Ty
 IsUnwritten {X} is_such has_none fault =
     ((fault ≡ Write) × ((made : X) × is_such made)) ⊎ has_none fault
 
--- the words are a command, the lines give records, and this is so of both
+-- the arguments are a command, the lines give records, and this holds for both
 pub record IsOver {C : Type 0} (Asks : Tokens → C → Type 0) (is : C → List RawRecord → Type 0)
     (words : Tokens) (lines : List Octets) : Type 0 where
   pub command : C
@@ -36,8 +36,8 @@ pub record IsOver {C : Type 0} (Asks : Tokens → C → Type 0) (is : C → List
   pub gives : Give lines given
   pub so : is command given
 
--- what the lines of an input answer is printed, and no more; where they have no answer, the reason
--- is told; and only where there is an answer is anything written
+-- what the lines of an input answer is printed, and no more; a fault of the records is reported
+-- only if they have no answer, for this reason, and a fault of writing only if they have an answer
 pub record IsRun {X R : Type 0} (text_of : X → Octets) (IsAnswer : List Octets → X → Type 0)
     (HasNone : List Octets → DenialFault → Type 0) (input left : Option Octets)
     (old new : Option Octets) (result : Result R DenialFault) : Type 0 where

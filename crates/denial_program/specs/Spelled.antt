@@ -15,8 +15,8 @@ SpelledRecord = Record Name (ZoneRecordData Octets Name)
 abbrev pub SpellsRecord : Tokens → SpelledRecord → Type 0
 SpellsRecord = EntryText (λ o. o) (λ n. n)
 
--- they spell a record of whose data this one has the octets in canonical form (RFC 4034, section
--- 6.2)
+-- the words spell a record with data whose canonical form has the octets of this one (RFC 4034,
+-- section 6.2)
 pub record LineText (ws : Tokens) (r : RawRecord) : Type 0 where
   pub spelled : SpelledRecord
   pub are : SpellsRecord ws spelled

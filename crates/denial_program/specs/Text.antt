@@ -1,4 +1,4 @@
--- The text of an answer.
+-- The printed form of a reply.
 use Rattle.std.specs.{Prelude.{ℕ, List, ◌++◌, codes}, List.flat_map, Fmt.decimal}
 use Rattle.domain_octets.specs.Octets.{Octets}
 use Rattle.domain_names.specs.{Text.name_text, Name.Name}
@@ -11,7 +11,7 @@ use Rattle.domain_nsec.specs.Chain.{Link}
 use Rattle.domain_nsec3.specs.Chain.{ChainRecords, HashedLink, ParamRecord}
 use Rattle.denial_program.specs.{Check.verdict_text, declared.answer.Reply.{Reply, TheVariants.{Nsecs, Nsec3s, Verdict}}}
 
--- the owner with its last dot, the TTL, the class, the type and the text of the data
+-- the owner with its last dot, the TTL, the class, the type and the presentation format of the data
 abbrev pub record_line : {D : Type 0} → ℕ → (D → Octets) → Record Name D → Octets
 record_line rtype data_text r =
     (name_text r.owner ++ codes ".") ++ (codes " " ++ (decimal r.ttl ++ (codes " "

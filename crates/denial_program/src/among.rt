@@ -7,8 +7,8 @@ use domain_borrowed::{BorrowedRecord, ReadAs};
 use domain_octets::OutOfMemory;
 use std::alloc::Global;
 
-/// Returns the records of a type among these, in their order; where such records tell of the apex
-/// alone, those of this one.
+/// Returns the records of a type among these, in their order. If records of the type only count at
+/// the apex, returns those of this apex.
 #[tactic(auto, using(crate::proofs::RunLemmas::goes_past, crate::proofs::RunLemmas::next_left))]
 pub fn records_among<'a, K: ReadAs<'a>>(
     alloc: Global,

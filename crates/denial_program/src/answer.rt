@@ -1,4 +1,4 @@
-//! What a run answers, and how it is printed.
+//! The reply of a run, and how it is printed.
 ghost use Rattle.std.specs.Prelude.{◌≡◌, ◌⊎◌, List, IfErr, IfOk, IsErrOf, OnOk};
 ghost use Rattle.std.specs.Io.KnownBytes.{Appends};
 ghost use Rattle.domain_records.specs.Order.{IsInOrder, IsOneClass};
@@ -28,22 +28,23 @@ use std::alloc::Global;
 use std::io;
 use std::io::Write;
 
-/// What a run answers. An NSEC chain borrows from the records of its zone, an NSEC3 chain its apex.
+/// The reply of a run. An NSEC chain borrows from the records of its zone, an NSEC3 chain from its
+/// apex.
 #[derive(Drop)]
 pub enum Reply<'s, 'a> {
-    /// An NSEC chain before its records are made.
+    /// An NSEC chain whose records are not made yet.
     Nsecs(NsecChain<'s, ParsedName<'a>>),
-    /// An NSEC3 chain before its records are made, with the record of its parameters.
+    /// An NSEC3 chain whose records are not made yet, with its NSEC3PARAM record.
     Nsec3s(Nsec3Chain<'s, ZoneOctets>),
-    /// What records prove of a name.
+    /// What records prove about a name.
     Verdict(ZoneName, Verdict),
 }
 
-/// Returns the NSEC chain of the zone that the records are, from which it borrows.
+/// Returns the NSEC chain of the zone with these records, from which it borrows.
 ///
 /// # Errors
 ///
-/// `Signing` with the first fault of the zone, and `OutOfMemory`.
+/// `Signing` with the first fault of the zone, and `OutOfMemory` if there is no memory.
 #[tactic(auto, using(std::proofs::lemmas::Grind::common_steps, crate::proofs::RunLemmas::memory_told, crate::proofs::RunLemmas::no_nsecs, crate::proofs::RunLemmas::nsecs_made))]
 pub fn nsecs_of<'s, 'a>(
     alloc: Global,
@@ -67,9 +68,9 @@ pub fn nsecs_of<'s, 'a>(
     }
 }
 
-/// Returns the chain of the zone that the records are: by hashes with these parameters, or, without
-/// any, of NSEC records. It borrows from the apex, and of NSEC records from the records. No two of
-/// its hashes are alike, so that a sorter that takes no memory serves as well as a stable one.
+/// Returns the chain of the zone with these records: NSEC3 with these parameters, or NSEC without
+/// any. It borrows from the apex and, for NSEC, from the records. No two of its hashes are the
+/// same, so a sorter that does not allocate serves as well as a stable one.
 #[tactic(auto, using(std::proofs::lemmas::Grind::common_steps, crate::proofs::RunLemmas::nsec3s_made, crate::proofs::RunLemmas::on_ok))]
 fn chain_reply<'s, 'a, H: Nsec3Hasher>(
     alloc: Global,
@@ -85,7 +86,7 @@ fn chain_reply<'s, 'a, H: Nsec3Hasher>(
     ensures err { IfErr result (λ fault. (given : List RawRecord) → Sorts given sorted.now
         → HasNoAnswer (H.answer hasher.now) (Chain apex.now parameters) given fault) }
 
-    // Want of memory may still come while the chain is written.
+    // Memory may still run out while the chain is written.
     ensures memory { OnOk result ((given : List RawRecord) → Sorts given sorted.now
         → HasNoAnswer (H.answer hasher.now) (Chain apex.now parameters) given OutOfMemory) }
 {
@@ -102,8 +103,8 @@ fn chain_reply<'s, 'a, H: Nsec3Hasher>(
     }
 }
 
-/// Writes the records of an NSEC chain, one a line. They borrow from the chain, so that this takes
-/// no memory.
+/// Writes the records of an NSEC chain, one a line. They borrow from the chain, so this does not
+/// allocate.
 fn write_nsecs<W: Write>(chain: &NsecChain<'_, ParsedName<'_>>, output: &mut W) -> io::Result<()>
     ensures { OnOk result (Appends (W.contents output.old) (W.contents output.new)
         (lines_of nsec_line chain.now)) }
@@ -117,8 +118,8 @@ fn write_nsecs<W: Write>(chain: &NsecChain<'_, ParsedName<'_>>, output: &mut W) 
     Ok(())
 }
 
-/// Writes the records of an NSEC3 chain, one a line. They borrow from the chain, so that this takes
-/// no memory.
+/// Writes the records of an NSEC3 chain, one a line. They borrow from the chain, so this does not
+/// allocate.
 fn write_chain<W: Write>(chain: &Nsec3Chain<'_, ZoneOctets>, output: &mut W) -> io::Result<()>
     ensures { OnOk result (Appends (W.contents output.old) (W.contents output.new)
         (lines_of nsec3_line chain.now.links)) }
@@ -132,7 +133,7 @@ fn write_chain<W: Write>(chain: &Nsec3Chain<'_, ZoneOctets>, output: &mut W) -> 
     Ok(())
 }
 
-/// Writes the records of an NSEC3 chain, and the record of its parameters.
+/// Writes the records of an NSEC3 chain, and its NSEC3PARAM record.
 #[tactic(auto, using(crate::proofs::RunLemmas::appends_more))]
 fn write_nsec3s<W: Write>(chain: &Nsec3Chain<'_, ZoneOctets>, output: &mut W) -> io::Result<()>
     ensures { OnOk result (Appends (W.contents output.old) (W.contents output.new)
@@ -144,7 +145,7 @@ fn write_nsec3s<W: Write>(chain: &Nsec3Chain<'_, ZoneOctets>, output: &mut W) ->
 }
 
 impl<'s, 'a> Reply<'s, 'a> {
-    /// Writes the answer, and flushes the output.
+    /// Writes the reply, and flushes the output.
     fn write<W: Write>(&self, output: &mut W) -> io::Result<()>
         ensures { OnOk result
             (Appends (W.contents output.old) (W.contents output.new) (answer_text self.now)) }
@@ -160,7 +161,8 @@ impl<'s, 'a> Reply<'s, 'a> {
         output.flush()
     }
 
-    /// Writes the answer; an error of the device is `Write`, unless it is lack of memory.
+    /// Writes the reply. An error of the device is `Write`, or `OutOfMemory` if it is out of
+    /// memory.
     fn send<W: Write>(self, output: &mut W) -> Result<(), DenialFault>
         ensures ok { OnOk result
             (Appends (W.contents output.old) (W.contents output.new) (answer_text self.entry)) }
@@ -173,7 +175,7 @@ impl<'s, 'a> Reply<'s, 'a> {
     }
 }
 
-/// Writes the chain of the zone that the records are. They are sorted first.
+/// Writes the chain of the zone with these records. Sorts them first.
 #[tactic(auto, using(std::proofs::lemmas::Grind::common_steps, crate::proofs::RunLemmas::unsorted, crate::proofs::RunLemmas::unwritten, crate::proofs::RunLemmas::on_ok, domain_octets::proofs::StdLemmas::if_err_of))]
 fn write_chain_of<'a, W: Write, H: Nsec3Hasher>(
     alloc: Global,
@@ -203,12 +205,17 @@ fn write_chain_of<'a, W: Write, H: Nsec3Hasher>(
 ///
 /// # Errors
 ///
-/// The first of these that applies: of a chain `MixedClasses`, and `Signing` where there is none;
-/// of a verdict of NSEC3 records `Param` where the apex has not exactly one NSEC3PARAM record, and
-/// `Signing` where the hasher refuses; `Write` where the output could not be written; and
-/// `OutOfMemory`, of a chain only where the zone has no fault, but for NSEC3 one of hashing. Before
-/// a fault of the zone is known, `Unprepared` if there is no memory to sort the records or to lay
-/// them. Nothing is written before `Write` and `OutOfMemory`.
+/// The first of these that applies:
+///
+/// - for a chain: `MixedClasses`, and `Signing` if there is none;
+/// - for a verdict of NSEC3 records: `Param` if the apex does not have exactly one NSEC3PARAM
+///   record, and `Signing` if the hasher fails;
+/// - `Write` if the output could not be written;
+/// - `OutOfMemory`. For a chain this implies that the zone has no fault, except for NSEC3 one of
+///   hashing.
+///
+/// Before a fault of the zone is known, `Unprepared` if there is no memory to sort or to store the
+/// records. For other errors than `Write` and `OutOfMemory`, nothing is written.
 pub fn write_answer<'a, W: Write, H: Nsec3Hasher>(
     alloc: Global,
     arena: &'a Bump,

@@ -1,4 +1,4 @@
-//! Names that lie in an arena, one after another.
+//! Names that are stored in an arena, one after another.
 ghost use Rattle.std.specs.Prelude.{◌≡◌, IfOk};
 
 use crate::line::ZoneName;
@@ -16,7 +16,7 @@ pub fn store_name<'a>(arena: &'a Bump, name: &ZoneName) -> Result<ParsedName<'a>
     Ok(ParsedName::over(wire))
 }
 
-/// Returns the wire form of a name in the arena: `last`, where it is spelled like that, or a copy.
+/// Returns the wire form of a name in the arena: `last` if it has the same octets, or a copy.
 fn compact_wire<'a>(arena: &'a Bump, last: &'a [u8], wire: &[u8]) -> Result<&'a [u8], OutOfMemory>
     ensures { IfOk result (λ compacted. compacted.now ≡ wire.now) }
 {
@@ -27,8 +27,8 @@ fn compact_wire<'a>(arena: &'a Bump, last: &'a [u8], wire: &[u8]) -> Result<&'a 
     Ok(copy)
 }
 
-/// Lays the owners of records into the arena once more, in the order of the records, so that who
-/// goes over them goes over the arena from one end to the other.
+/// Stores the owners of records in the arena once more, in the order of the records. A pass over
+/// the records then reads the arena from one end to the other.
 pub fn compact_owners<'a>(
     arena: &'a Bump,
     mut records: Vec<BorrowedRecord<'a>>,

@@ -1,4 +1,4 @@
-//! What a chain that was read proves of a name and a type.
+//! What a chain that was read proves about a name and a type.
 ghost use Rattle.std.specs.Prelude.{◌≡◌, ◌⊎◌, [], ◌∷◌, IfErr, IfOk};
 ghost use Rattle.domain_nsec3.specs.View.{as_param_record, hashed_links_of};
 ghost use Rattle.denial_program.specs.Check.{AreNsec3s, AreParams, HasNoNsec3Verdict, HasNoParam, IsNsec3Verdict, IsNsecVerdict};
@@ -36,7 +36,7 @@ pub fn nsec_reply<'s, 'a>(
 ///
 /// # Errors
 ///
-/// `Param` where the apex has no such record, or several; and `OutOfMemory`.
+/// `Param` if the apex has no such record, or several, and `OutOfMemory` if there is no memory.
 pub fn chain_of<'a>(
     alloc: Global,
     apex: &ZoneName,

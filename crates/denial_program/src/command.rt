@@ -1,4 +1,4 @@
-//! What the words after the program's name ask for.
+//! The command that the arguments of the program spell.
 ghost use Rattle.std.specs.Prelude.{◌≡◌, ◌⊎◌, ℕ, ◌∷◌, codes, IfErr, IfNone, IfOk, IfSome, map, string_bytes};
 ghost use Rattle.domain_names.specs.Text.{NameText, IsNoName, ScanFault};
 ghost use Rattle.domain_bitmap.specs.Text.{SaltText};
@@ -17,7 +17,7 @@ use std::alloc::Global;
 /// The parameters of an NSEC3 chain.
 pub type Nsec3Params = Nsec3param<ZoneOctets>;
 
-/// A zone by its apex, and a name and a type that are asked of it.
+/// A question: a zone by its apex, and a name and a type to look up in it.
 #[derive(Drop)]
 pub struct Question {
     /// The apex.
@@ -28,23 +28,23 @@ pub struct Question {
     pub rtype: Rtype,
 }
 
-/// What the words ask for.
+/// A command.
 #[derive(Drop)]
 pub enum Command {
-    /// The chain of the zone with this apex: of NSEC3 records with these parameters, or, without
-    /// any, of NSEC records.
+    /// Write the chain of the zone with this apex: NSEC3 records with these parameters, or NSEC
+    /// records without any.
     Chain(ZoneName, Option<Nsec3Params>),
-    /// What NSEC records prove.
+    /// Write what NSEC records prove.
     CheckNsec(Question),
-    /// What NSEC3 records prove.
+    /// Write what NSEC3 records prove.
     CheckNsec3(Question),
 }
 
-/// Returns a name that a word spells.
+/// Returns the name that an argument spells.
 ///
 /// # Errors
 ///
-/// `Usage` where it spells none, and `OutOfMemory`.
+/// `Usage` if it spells none, and `OutOfMemory` if there is no memory.
 pub fn name_of(alloc: Global, word: &str) -> Result<ZoneName, DenialFault>
     ensures ok { IfOk result (NameText word.now) }
     ensures err { IfErr result (IsUsage (IsNoName word.now)) }
@@ -56,7 +56,7 @@ pub fn name_of(alloc: Global, word: &str) -> Result<ZoneName, DenialFault>
     }
 }
 
-/// Returns the value that a word spells.
+/// Returns the value that an argument spells.
 fn value_of<T: FromToken>(word: &str) -> Result<T, DenialFault>
     ensures ok { IfOk result (T.spells word.now) }
     ensures err { IfErr result (λ e. (e ≡ DenialFault.Usage)
@@ -68,7 +68,7 @@ fn value_of<T: FromToken>(word: &str) -> Result<T, DenialFault>
     }
 }
 
-/// Returns a salt that a word spells (RFC 5155, section 4.3).
+/// Returns the salt that an argument spells (RFC 5155, section 4.3).
 #[tactic(auto, using(domain_bitmap::proofs::TextLemmas::salt_excludes))]
 fn salt_of(alloc: Global, word: &str) -> Result<Nsec3Salt<ZoneOctets>, DenialFault>
     ensures ok { IfOk result (SaltText word.now) }
@@ -83,7 +83,7 @@ fn salt_of(alloc: Global, word: &str) -> Result<Nsec3Salt<ZoneOctets>, DenialFau
     }
 }
 
-/// Returns the flags that a last word asks for (RFC 5155, section 3.1.2).
+/// Returns the flags of an optional last argument (RFC 5155, section 3.1.2).
 #[tactic(auto, using(std::proofs::lemmas::Grind::common_steps, crate::proofs::RunLemmas::same_text))]
 fn flags_of(words: &[String]) -> Option<u8>
     ensures some { IfSome result (FlagsText (map string_bytes words.now)) }
@@ -97,7 +97,7 @@ fn flags_of(words: &[String]) -> Option<u8>
     }
 }
 
-/// Returns what `nsec` and these words ask for.
+/// Returns the command of `nsec` with these arguments.
 fn nsec_command(alloc: Global, words: &[String]) -> Result<Command, DenialFault>
     ensures ok { IfOk result (Asks (codes "nsec" ∷ map string_bytes words.now)) }
     ensures err { IfErr result (IsUsage (IsNoCommand (codes "nsec" ∷ map string_bytes words.now))) }
@@ -108,12 +108,12 @@ fn nsec_command(alloc: Global, words: &[String]) -> Result<Command, DenialFault>
     Ok(Command::Chain(name_of(alloc, apex.as_str())?, None))
 }
 
-/// Returns the parameters with these iterations and this salt (RFC 5155, section 4.3), and the
-/// flags that a last word asks for.
+/// Returns the parameters with these iterations and this salt (RFC 5155, section 4.3), and with the
+/// flags of an optional last argument.
 ///
 /// # Errors
 ///
-/// `Usage` where one of the words spells no such thing; and `OutOfMemory`.
+/// `Usage` if an argument is malformed, and `OutOfMemory` if there is no memory.
 pub fn parameters_of(
     alloc: Global,
     iterations: &str,
@@ -132,7 +132,7 @@ pub fn parameters_of(
     Ok(Nsec3param::new(Nsec3HashAlgorithm::SHA1, flags, iterations, salt))
 }
 
-/// Returns what `nsec3` and these words ask for.
+/// Returns the command of `nsec3` with these arguments.
 fn nsec3_command(alloc: Global, words: &[String]) -> Result<Command, DenialFault>
     ensures ok { IfOk result (Asks (codes "nsec3" ∷ map string_bytes words.now)) }
     ensures err { IfErr result (IsUsage
@@ -146,11 +146,11 @@ fn nsec3_command(alloc: Global, words: &[String]) -> Result<Command, DenialFault
     Ok(Command::Chain(apex, Some(parameters)))
 }
 
-/// Returns the question that these words spell.
+/// Returns the question that these arguments spell.
 ///
 /// # Errors
 ///
-/// `Usage` where one of them spells no name or no type; and `OutOfMemory`.
+/// `Usage` if an argument does not spell a name or a type, and `OutOfMemory` if there is no memory.
 pub fn question_of(
     alloc: Global,
     apex: &str,
@@ -167,7 +167,7 @@ pub fn question_of(
     Ok(Question { apex, name, rtype })
 }
 
-/// Returns what `check` and these words ask for.
+/// Returns the command of `check` with these arguments.
 fn check_command(alloc: Global, words: &[String]) -> Result<Command, DenialFault>
     ensures ok { IfOk result (Asks (codes "check" ∷ map string_bytes words.now)) }
     ensures err { IfErr result (λ e. ((e ≡ DenialFault.Usage)
@@ -185,11 +185,11 @@ fn check_command(alloc: Global, words: &[String]) -> Result<Command, DenialFault
     }
 }
 
-/// Returns what the words after the program's name ask for.
+/// Returns the command that the arguments of the program spell.
 ///
 /// # Errors
 ///
-/// `Usage` exactly where they are no command, and `OutOfMemory`.
+/// `Usage` if and only if they are no command, and `OutOfMemory` if there is no memory.
 pub fn command_of(alloc: Global, words: &[String]) -> Result<Command, DenialFault>
     ensures ok { IfOk result (Asks (map string_bytes words.now)) }
     ensures err { IfErr result (IsUsage (IsNoCommand (map string_bytes words.now))) }

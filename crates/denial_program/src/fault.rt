@@ -1,4 +1,4 @@
-//! Why a run stops.
+//! The reasons why a run stops.
 ghost use Rattle.std.specs.{Prelude.{◌≡◌, ◌⊎◌, ◌↔◌, Some}, IoError.error_kind};
 ghost use Rattle.denial_program.specs.Fault.{exit_status};
 ghost use Rattle.denial_program.specs.declared.fault.DenialFault.TheVariants as denial_fault;
@@ -11,26 +11,27 @@ use std::alloc::{AllocError, AllocFailed};
 use std::io::ErrorKind;
 use std::{fmt, io};
 
-/// Why a run of the program stops. Its text is what the program prints on standard error.
+/// The reason why a run of the program stops. Its text is what the program prints on standard
+/// error.
 #[derive(Clone, Copy, Debug, PartialEq, Eq)]
 pub enum DenialFault {
-    /// The words are no command.
+    /// The arguments are no command.
     Usage,
     /// The input could not be read.
     Read,
-    /// The line of this number, counted from 1, is no record. It is the lowest such line.
+    /// The line with this number, counted from 1, is not a record. It is the first such line.
     Line(u64),
-    /// There was no memory for the words or the records, before anything was asked of them.
+    /// There was no memory for the arguments or the records, before the reply was computed.
     Unprepared(PrepareError),
     /// The records have more than one class.
     MixedClasses,
-    /// There is no chain, or no hash.
+    /// There is no chain, or a name was not hashed.
     Signing(SigningError),
     /// The apex has no NSEC3PARAM record, or more than one.
     Param,
     /// The output could not be written.
     Write,
-    /// There was no memory for what is asked of the records.
+    /// There was no memory to compute or write the reply.
     OutOfMemory,
 }
 
@@ -52,7 +53,7 @@ impl fmt::Display for DenialFault {
     ghost output = { λ e. Some (fault_text e) };
 
     fn fmt<W: fmt::Write>(&self, f: &mut fmt::Formatter<W>) -> fmt::Result {
-        // The other half of each text stands in `fault_text`, `specs/Fault.antt`.
+        // `fault_text` in `specs/Fault.antt` repeats these texts: change both together.
         match *self {
             DenialFault::Usage => f.write_str(USAGE),
             DenialFault::Read => f.write_str("denial: cannot read input"),
@@ -70,7 +71,8 @@ impl fmt::Display for DenialFault {
 const USAGE: &str = "usage: denial nsec APEX | denial nsec3 APEX ITERATIONS SALT [optout] \
      | denial check nsec APEX NAME TYPE | denial check nsec3 APEX NAME TYPE";
 
-/// Returns an error of a device is that device's fault, unless it is lack of memory.
+/// Converts an error of a device to the fault of that device, or to `OutOfMemory` if the error is
+/// out of memory.
 pub fn fault_of(error: &io::Error, fault: DenialFault) -> DenialFault
     ensures either { (result ≡ fault) ⊎ (result ≡ denial_fault.OutOfMemory) }
     ensures memory { (result ≡ denial_fault.OutOfMemory)

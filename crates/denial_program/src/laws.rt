@@ -1,5 +1,5 @@
-//! What the program's contract says of the data that lines spell. A caller calls the law in its
-//! body.
+//! Laws that relate the program's contract to the data that lines spell. To use a law, call it in a
+//! function body.
 ghost use Rattle.std.specs.Prelude.{◌≡◌, List};
 ghost use Rattle.domain_octets.specs.Octets.{Octets};
 ghost use Rattle.domain_base.specs.Types as rtypes;
@@ -11,17 +11,18 @@ ghost use Rattle.denial_program.specs.{Check.{IsNsecOf, IsNsec3Of}, Listing.{Giv
 ghost use Rattle.denial_program.specs.Spelled.{LineText, SpelledRecord};
 ghost use Rattle.domain_names.specs.Name.{Tokens};
 
-/// The program keeps of a line's data the octets of their canonical form. The chain of the records
-/// that lines give so is that of the records that the lines spell, with data of all types; and
-/// where there is none, these have none, for the same reason.
+/// Of the data of a line, the program keeps the octets in canonical form. The chain of the records
+/// that lines give is also that of the records that the lines spell, with data of all types. If the
+/// first have no chain, the second have none either, for the same reason.
 pub fn chains_are_of_what_lines_spell()
     ensures { (lines : List Octets) (given : List RawRecord) → Give lines given
         → (spelled : List SpelledRecord) × GiveData lines spelled
         × HaveOneChain (λ o. o) (λ n. n) given spelled }
 {}
 
-/// The words of a line that spell an NSEC or NSEC3 record spell one of a link of a chain, and those
-/// of an NSEC3PARAM record its parameters. So no such line is passed over where a chain is checked.
+/// A line that spells an NSEC or NSEC3 record spells one with a link of a chain, and a line that
+/// spells an NSEC3PARAM record spells one with parameters. So no such line is ignored when a chain
+/// is checked.
 pub fn lines_of_chains_give_links()
     ensures nsec { (words : Tokens) (r : RawRecord) → LineText words r
         → r.«data».rtype ≡ rtypes.nsec → (k : Link) × IsNsecOf r k }

@@ -1,9 +1,9 @@
-//! All that the program `denial` is made of: the records of a zone are read, one a line, and the
-//! chain is written that denies what the zone does not hold; or records of such a chain are read,
-//! and what they prove of a name and a type is written.
+//! The whole program `denial`. It reads the records of a zone, one a line, and writes the chain
+//! that denies what the zone does not hold. Or it reads records of such a chain, and writes what
+//! they prove about a name and a type.
 //!
-//! `run_denial` is generic over its reader, its writer and its hasher. The program hands in those
-//! of its process, and tests hand in such as fail.
+//! `run_denial` is generic over its reader, its writer and its hasher. The program passes those of
+//! its process, and tests pass some that fail.
 #![tactic(auto)]
 
 mod among;

@@ -1,4 +1,4 @@
-//! What a line of the input says.
+//! A line of the input.
 ghost use Rattle.std.specs.Prelude.{◌≡◌, IfErr, IfNone, IfOk, IfSome};
 ghost use Rattle.denial_program.specs.{Spelled.LineText, Listing.{IsPlain, Refuses, Says}};
 
@@ -11,28 +11,29 @@ use domain_rdata::ZoneRecordData;
 use domain_record::Record;
 use std::alloc::Global;
 
-/// The octets of the program's names and data: most lie in the value itself, and take no memory.
+/// The octets of the program's names and data. Most are stored in the value itself, without
+/// allocation.
 pub type ZoneOctets = SmallOctets;
 
-/// The names of the program: each in octets of its own.
+/// The names of the program, each with its own octets.
 pub type ZoneName = Name<ZoneOctets>;
 
-/// Data as they are read, before they are compacted into an arena.
+/// Data that were read, before they are compacted into an arena.
 pub type ZoneData = ZoneRecordData<ZoneOctets, ZoneName>;
 
-/// What a line says.
+/// The content of a line.
 #[derive(Drop)]
 pub enum Line<'a> {
-    /// It is blank, or a comment.
+    /// The line is blank, or a comment.
     Nothing,
     /// A record, with its owner and the canonical form of its data in an arena.
     Record(BorrowedRecord<'a>),
-    /// None of these.
+    /// The line is none of these.
     Bad,
 }
 
-/// Returns a line as text, where none of its octets is past `~`. That it is text is proved, so that
-/// it need not be looked through again.
+/// Returns a line as text if no octet is past `~`. A proof shows that it is text, so it is not
+/// checked again.
 fn plain_text(line: &[u8]) -> Option<&str>
     ensures some { IfSome result (λ text. (text.now ≡ line.now) × IsPlain line.now) }
     ensures none { IfNone result (IsPlain line.now → ⊥) }
@@ -62,7 +63,7 @@ fn scan_record<'a, S: Scanner<Name = ZoneName, Octets = ZoneOctets>>(
     Ok(Record::new(owner, record.class(), record.ttl(), stored))
 }
 
-/// Returns what a line says, with the record in the arena. The line stands without its end.
+/// Returns the content of a line, with the record in the arena. Pass the line without its end.
 pub fn read_line<'a>(
     alloc: Global,
     store: &mut Store<'a>,

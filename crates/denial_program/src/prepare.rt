@@ -1,9 +1,8 @@
-//! What is made ready before anything is asked of the records: the command, and the records, read
-//! and sorted.
+//! What a run prepares before it computes the reply: the command, and the records, read and sorted.
 //!
-//! Want of memory for these says nothing of the zone, and is told as `Unprepared`, whose value only
-//! this module makes. So who makes a chain has to answer `OutOfMemory` for the memory that it takes
-//! itself, and that says that the zone has no fault.
+//! Out of memory for these says nothing of the zone, and is reported as `Unprepared`, whose value
+//! only this module can make. So code that makes a chain must report `OutOfMemory` for its own
+//! memory, which implies that the zone has no fault.
 ghost use Rattle.std.specs.Prelude.{◌≡◌, ◌⊎◌, IfErr, IfOk, IfSome, map};
 ghost use Rattle.std.specs.{Prelude.string_bytes, Str.Lines.lines};
 ghost use Rattle.domain_records.specs.Order.{IsInOrder, IsOneClass};
@@ -24,14 +23,14 @@ use domain_octets::OutOfMemory;
 use std::alloc::Global;
 use std::io::BufRead;
 
-/// There was no memory to make ready what a run is about. Only this module makes it, so that
-/// whoever has one has seen that refused.
+/// The error of a run that had no memory to prepare. Only this module makes it, so a value proves
+/// that memory ran out there.
 #[derive(Clone, Copy, Debug, PartialEq, Eq)]
 pub struct PrepareError {
     reason: OutOfMemory,
 }
 
-/// That there was no memory to make ready what a run is about.
+/// Returns the fault of a run that had no memory to prepare.
 fn unprepared() -> DenialFault
     ensures { result ≡ DenialFault.Unprepared prepare_error }
 {
@@ -40,11 +39,11 @@ fn unprepared() -> DenialFault
     })
 }
 
-/// Returns what the words after the program's name ask for.
+/// Returns the command that the arguments of the program spell.
 ///
 /// # Errors
 ///
-/// `Usage` exactly where they are no command, and `Unprepared`.
+/// `Usage` if and only if they are no command, and `Unprepared` if there is no memory.
 pub fn read_command(alloc: Global, words: &[String]) -> Result<Command, DenialFault>
     ensures ok { IfOk result (Asks (map string_bytes words.now)) }
     ensures err { IfErr result (λ e.
@@ -58,12 +57,12 @@ pub fn read_command(alloc: Global, words: &[String]) -> Result<Command, DenialFa
     }
 }
 
-/// Returns the records of the lines that are left, with their octets in the arena.
+/// Returns the records of the remaining lines, with their octets in the arena.
 ///
 /// # Errors
 ///
-/// `Read` where the input could not be read; `Line` of the lowest line that is no record; and
-/// `Unprepared`.
+/// `Read` if the input could not be read, `Line` with the first line that is not a record, and
+/// `Unprepared` if there is no memory.
 pub fn read_records<'a, R: BufRead>(
     alloc: Global,
     arena: &'a Bump,
@@ -85,7 +84,8 @@ pub fn read_records<'a, R: BufRead>(
 ///
 /// # Errors
 ///
-/// `MixedClasses` where the records are not of one class, and else `Unprepared`.
+/// `MixedClasses` if the records are of several classes, and `Unprepared` if they are of one class
+/// and there is no memory.
 pub fn sort_zone<'a>(
     records: Vec<BorrowedRecord<'a>>,
 ) -> Result<Vec<BorrowedRecord<'a>>, DenialFault>
@@ -105,7 +105,7 @@ pub fn sort_zone<'a>(
 ///
 /// # Errors
 ///
-/// `Unprepared`.
+/// `Unprepared` if there is no memory.
 pub fn store_apex<'a>(arena: &'a Bump, apex: &ZoneName) -> Result<ParsedName<'a>, DenialFault>
     ensures ok { IfOk result (λ copy. copy ≡ apex.now) }
     ensures err { IfErr result (λ e. e ≡ DenialFault.Unprepared prepare_error) }
@@ -113,13 +113,13 @@ pub fn store_apex<'a>(arena: &'a Bump, apex: &ZoneName) -> Result<ParsedName<'a>
     store_name(arena, apex).map_err(|_| unprepared())
 }
 
-/// Returns the records, where their owners are printed with the octets of these compacted into the
-/// arena once more, in order: who goes over them, and the chain that borrows them, go over these
-/// from one end to the other. Owners that are hashed stay where they lie.
+/// Returns the records. If their owners are printed, compacts the octets of these into the arena
+/// once more, in order. A pass over the records, or over the chain that borrows them, then reads
+/// these octets from one end to the other. Owners that are hashed stay where they are.
 ///
 /// # Errors
 ///
-/// `Unprepared`.
+/// `Unprepared` if there is no memory.
 pub fn compact_zone<'a>(
     arena: &'a Bump,
     sorted: Vec<BorrowedRecord<'a>>,

@@ -1,18 +1,18 @@
-//! What a program takes from the process that it runs in.
+//! What a program takes from its process.
 ghost use Rattle.std.specs.Prelude.{◌≡◌, ◌⊎◌, IfErr};
 ghost use Rattle.denial_program.specs.declared.fault.DenialFault.TheVariants as denial_fault;
 
 use crate::fault::{DenialFault, fault_of};
 use std::{env, io};
 
-/// The octets that are read or written at a time.
+/// The number of octets that are read or written at a time.
 pub const BUFFER: usize = 65536;
 
-/// Returns the words after the program's name.
+/// Returns the arguments of the program.
 ///
 /// # Errors
 ///
-/// `OutOfMemory` if there is no memory; `Usage` where a word is no text, and so asks for nothing.
+/// `OutOfMemory` if there is no memory, and `Usage` if an argument is not valid UTF-8.
 pub fn words_of(rt: &HostRuntime) -> Result<Vec<String>, DenialFault>
     ensures { IfErr result (λ e. (e ≡ denial_fault.Usage) ⊎ (e ≡ denial_fault.OutOfMemory)) }
 {

@@ -1,4 +1,4 @@
-//! The run of the program, over any reader and any writer.
+//! Runs the program over any reader and any writer.
 ghost use Rattle.std.specs.Prelude.{◌≡◌, IfErr, MatchResult, IsErrOf, IfSome, map, string_bytes};
 ghost use Rattle.std.specs.Str.Lines.{lines};
 ghost use Rattle.denial_program.specs.{Answer.{Answers, GivesNoAnswer}, Command.IsCommand};
@@ -14,20 +14,27 @@ use domain_hasher::Nsec3Hasher;
 use std::alloc::Global;
 use std::io::{BufRead, Write};
 
-/// Does what the words ask for: reads records, one a line, and writes the chain of the zone that
-/// they are, one record a line, or what they, as records of a chain, prove of a name and a type, on
-/// one line.
+/// Runs the command that the arguments spell. Reads records, one a line. Writes the chain of the
+/// zone with these records, one record a line; or what they, as records of a chain, prove about a
+/// name and a type, on one line.
 ///
 /// # Errors
 ///
-/// The first of these that applies: `Usage` where the words are no command; `Read` where the input
-/// could not be read; `Line` of the lowest line that is no record; `MixedClasses`; `Signing` where
-/// there is no chain; `Param` where there is not one NSEC3PARAM record for NSEC3 records to be
-/// checked with; `Signing` where the hasher refuses; `Write` where the output could not be written;
-/// and `OutOfMemory`, only once the records are read and sorted, and for a chain only where their
-/// zone has none of these faults but those of hashing. `Unprepared` comes before that, wherever
-/// there is no memory for the words or the records. Nothing is written before `Write` and
-/// `OutOfMemory`.
+/// The first of these that applies:
+///
+/// - `Usage` if the arguments are no command;
+/// - `Read` if the input could not be read;
+/// - `Line` with the first line that is not a record;
+/// - `MixedClasses` if the records are of several classes;
+/// - `Signing` if there is no chain;
+/// - `Param` if there is not exactly one NSEC3PARAM record to check NSEC3 records with;
+/// - `Signing` if the hasher fails;
+/// - `Write` if the output could not be written;
+/// - `OutOfMemory`, only after the records are read and sorted. For a chain this implies that their
+///   zone has none of these faults except those of hashing.
+///
+/// `Unprepared` comes before, if there is no memory for the arguments or the records. For other
+/// errors than `Write` and `OutOfMemory`, nothing is written.
 pub fn run_denial<R: BufRead, W: Write, H: Nsec3Hasher>(
     alloc: Global,
     words: &[String],
@@ -35,17 +42,17 @@ pub fn run_denial<R: BufRead, W: Write, H: Nsec3Hasher>(
     input: &mut R,
     output: &mut W,
 ) -> Result<(), DenialFault>
-    // The answer to the command, over the records that the lines give.
+    // The reply to the command, over the records that the lines give.
     ensures run { IsRun answer_text (Answers (H.answer hasher.now) (map string_bytes words.now))
         (GivesNoAnswer (H.answer hasher.now) (map string_bytes words.now))
         (R.remaining input.old) (R.remaining input.new) (W.contents output.old)
         (W.contents output.new) result }
 
-    // Usage is answered exactly where the words are no command, want of memory aside.
+    // `Usage` if and only if the arguments are no command, unless memory runs out.
     ensures usage { MatchResult result (λ _. IsCommand (map string_bytes words.now))
         (TellsUsage (map string_bytes words.now)) }
 
-    // Want of memory, once the records are read, hides no fault of theirs: it has a reason too.
+    // `OutOfMemory`, after the records are read, hides no fault of theirs: it has a reason too.
     ensures memory { IsErrOf result OutOfMemory → IfSome (R.remaining input.old)
         (λ bytes. GivesNoAnswer (H.answer hasher.now) (map string_bytes words.now)
         (lines bytes) OutOfMemory) }

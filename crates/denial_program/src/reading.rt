@@ -1,4 +1,4 @@
-//! The lines of an input, read to the end.
+//! Reads the lines of an input to the end.
 ghost use Rattle.std.specs.Prelude.{◌≡◌, ◌≢◌, ◌⊎◌, ◌+◌, ◌-◌, [], ◌∷◌, ◌++◌, IfErr, IfOk};
 ghost use Rattle.std.specs.Prelude.{MatchResult, OnOk, IfNone, IfSome, length, slice_index};
 ghost use Rattle.std.specs.{Prelude.vec_len, Str.Lines.{lines, strip_carriage_return}};
@@ -31,7 +31,7 @@ pub fn without_end(line: &[u8]) -> &[u8]
     }
 }
 
-/// Reads to the end, and keeps nothing.
+/// Reads to the end, and discards everything.
 #[tactic(auto, using(std::proofs::lemmas::Grind::common_steps, crate::proofs::LineLemmas::known_start))]
 fn skip_all<R: BufRead>(input: &mut R) -> Result<(), DenialFault>
     ensures ok { OnOk result (IsReadToEnd (R.remaining input.old) (R.remaining input.new)) }
@@ -49,8 +49,8 @@ fn skip_all<R: BufRead>(input: &mut R) -> Result<(), DenialFault>
     Err(DenialFault::Read)
 }
 
-/// Appends the next line, with its end, and answers how many octets it has: none at the end of the
-/// input alone. A line that the reader holds whole is found by one fast search.
+/// Appends the next line, with its end, and returns its number of octets, which is 0 only at the
+/// end of the input. If the reader's buffer holds the whole line, one fast search finds its end.
 fn append_line<R: BufRead>(input: &mut R, line: &mut Vec<u8>) -> io::Result<usize>
     ensures ok { IfOk result (λ n. vec_len line.new ≡ vec_len line.old + n) }
     ensures bytes { OnOk result (IfSome (R.remaining input.old)
@@ -72,12 +72,12 @@ fn append_line<R: BufRead>(input: &mut R, line: &mut Vec<u8>) -> io::Result<usiz
     Ok(place + 1)
 }
 
-/// Returns what the next line says, with its record in the arena; None at the end of the input. The
-/// vector has the line then, with its end, in the place of what it had.
+/// Returns the content of the next line, with its record in the arena, or None at the end of the
+/// input. The vector then has this line, with its end, instead of its old content.
 ///
 /// # Errors
 ///
-/// `Read` where the input could not be read, and `OutOfMemory`.
+/// `Read` if the input could not be read, and `OutOfMemory` if there is no memory.
 pub fn next_line<'a, R: BufRead>(
     alloc: Global,
     store: &mut Store<'a>,
@@ -102,13 +102,13 @@ pub fn next_line<'a, R: BufRead>(
     Ok(Some(said))
 }
 
-/// Returns the records of the lines that are left, with their octets in the arena. A bad line is
-/// told only after the rest has been read, since a fault of the reader is told before it.
+/// Returns the records of the remaining lines, with their octets in the arena. A bad line is
+/// reported only after the rest has been read, since an error of the reader comes first.
 ///
 /// # Errors
 ///
-/// `Read` where the input could not be read; `Line` of the lowest line that is no record; and
-/// `OutOfMemory`.
+/// `Read` if the input could not be read, `Line` with the first line that is not a record, and
+/// `OutOfMemory` if there is no memory.
 #[tactic(auto, using(crate::proofs::LineLemmas::follows_skip, crate::proofs::LineLemmas::follows_record))]
 pub fn read_lines<'a, R: BufRead>(
     alloc: Global,

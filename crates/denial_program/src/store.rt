@@ -1,4 +1,4 @@
-//! What records are laid into while they are read.
+//! The store for the octets of records while they are read.
 ghost use Rattle.std.specs.Prelude.{◌≡◌, IfErr, IfNone, IfOk, IfSome, OnOk};
 ghost use Rattle.domain_base.specs.Scan.{TakesToken};
 ghost use Rattle.domain_names.specs.Text.{NameText};
@@ -16,9 +16,9 @@ use domain_record::{ComposeRecordData, RecordData};
 use std::alloc::Global;
 use std::marker::Model;
 
-/// An arena, with the octets of data on their way there, and the owner that was read last and lies
-/// there, with the word that spells it. Records of one owner mostly follow one another, so that its
-/// word is read and its octets are stored but once.
+/// An arena, a buffer for data on their way there, and the last owner that was read, with the word
+/// that spells it. Records of one owner mostly follow one another, so the word is read and its
+/// octets are stored only once.
 #[derive(Drop)]
 pub struct Store<'a> {
     arena: &'a Bump,
@@ -38,7 +38,7 @@ impl<'a> Model for Store<'a> {
     ghost invariant = { λ store. IfSome store.owner (NameText store.word.items) };
 }
 
-/// Puts a word in the place of octets.
+/// Replaces octets with a word.
 fn put_word(octets: &mut Vec<u8>, word: &str) -> Result<(), OutOfMemory>
     ensures { OnOk result (octets.new.items ≡ word.now) }
 {
@@ -48,7 +48,7 @@ fn put_word(octets: &mut Vec<u8>, word: &str) -> Result<(), OutOfMemory>
 }
 
 impl<'a> Store<'a> {
-    /// Returns a store that lays what is read into this arena.
+    /// Returns a store that puts what is read into this arena.
     pub fn new(alloc: Global, arena: &'a Bump) -> Self {
         Store {
             arena,
@@ -58,8 +58,8 @@ impl<'a> Store<'a> {
         }
     }
 
-    /// Returns a copy of the octets of data in canonical form (RFC 4034, section 6.2), as data of
-    /// their type.
+    /// Stores the octets of data in canonical form (RFC 4034, section 6.2), and returns them as
+    /// data of their type.
     pub fn data(&mut self, data: &ZoneData) -> Result<BorrowedData<'a>, OutOfMemory>
         ensures { IfOk result (λ stored. stored ≡ raw_data (λ o. o) (λ n. n) «data».now) }
     {
@@ -71,7 +71,7 @@ impl<'a> Store<'a> {
         Ok(BorrowedData::new(data.rtype(), octets))
     }
 
-    /// Returns the owner, where the next word spells it: goes past that word then.
+    /// Returns the last owner if the next word spells it, and then skips that word.
     fn scan_known<S: Scanner>(&self, scanner: &mut S) -> Result<Option<ParsedName<'a>>, OutOfMemory>
         ensures some { IfOk result (λ found. IfSome found (λ name.
             TakesToken (λ word. NameText word name) (S.tokens scanner.old)
@@ -93,7 +93,7 @@ impl<'a> Store<'a> {
         Ok(Some(owner))
     }
 
-    /// Reads a name into the arena, which is then the last.
+    /// Reads a name into the arena. It becomes the last owner.
     fn scan_anew<S: Scanner<Name = ZoneName, Octets = ZoneOctets>>(
         &mut self,
         alloc: Global,
@@ -117,7 +117,7 @@ impl<'a> Store<'a> {
         Ok(owner)
     }
 
-    /// Returns the owner that the next word spells, which lies in the arena.
+    /// Returns the owner that the next word spells, stored in the arena.
     pub fn scan_owner<S: Scanner<Name = ZoneName, Octets = ZoneOctets>>(
         &mut self,
         alloc: Global,

@@ -7,7 +7,7 @@ use domain_base::ToName;
 use domain_checker::Verdict;
 use std::fmt;
 
-/// A verdict on a name, as it is printed.
+/// A verdict on a name that prints as the program prints it.
 #[derive(Clone, Copy)]
 pub struct VerdictText<'a> {
     /// The name.

@@ -1,4 +1,4 @@
--- What is promised of answers.
+-- The contracts of answers.
 use Rattle.std.specs.Prelude.{Option, Some, None, ◌≡◌, ◌⊎◌, ◌<◌, ◌≤◌, ℕ, true, false, List, length, Result, Ok, Err, IfOk, IfErr, IsErrOf}
 use Rattle.domain_names.specs.Name.{is_at_or_below, Name}
 use Rattle.domain_hasher.specs.declared.error.Nsec3HashError.{Nsec3HashError, TheVariants.{Hasher, OutOfMemory}}
@@ -10,19 +10,20 @@ use Rattle.domain_answer.specs.{HashedReading.{IsFirstOfRefusals, IsHashedRead},
 use Rattle.domain_answer.specs.{ZoneAnswer.is_at_parent, declared.answer.Answer.{Answer, TheVariants.{OutsideZone, AtParent, TooManyIterations, NotProven}}}
 use Rattle.domain_answer.specs.declared.limits.Nsec3Limits.{Nsec3Limits}
 
--- of what a list of NSEC records answers to a question about x and t
+-- the contract of what a list of NSEC records answers to a question about x and t
 pub record IsJudged (listed : List Link) (a x : Name) (t : ℕ) (answer : Answer) : Type 0 where
-  -- for records of the chain of any zone, the answer of that zone, as far as they prove it
+  -- for records of the chain of any zone: the answer of that zone, as far as they prove it
   pub zone : IsAnswered listed a x t answer
-  -- for any list at all, the records that the answer rests on are there
+  -- for any list at all: the records that the answer rests on are in the list
   pub proof : RestsOn listed a x answer
-  -- the answer is what its first match says, or else its first cover, of the name and, where that
-  -- does not exist, of the wildcard
+  -- the answer is what the first match says, or else the first cover, of the name and, if that does
+  -- not exist, of the wildcard
   pub exact : answer ≡ reading a listed x t
-  -- and the labels that it counts are labels of the name, and a closest encloser has fewer
+  -- and the labels that the answer counts are labels of the name; a closest encloser has fewer
   pub within : CountsWithin (length x) answer
 
--- of what NSEC3 records answer to it with at most so many iterations, or of the error in its place
+-- the contract of what NSEC3 records answer with at most `limit` iterations, or of the error in its
+-- place
 pub record IsHashedJudged (R : HashedRecords) (x : Name) (t limit : ℕ)
     (result : Result Answer Nsec3HashError) : Type 0 where
   pub outside : is_at_or_below x R.apex ≡ false → result ≡ Ok OutsideZone
@@ -30,22 +31,22 @@ pub record IsHashedJudged (R : HashedRecords) (x : Name) (t limit : ℕ)
       → result ≡ Ok AtParent
   pub iterations : needs_no_records R.apex x t ≡ false → limit < R.parameters.iterations
       → result ≡ Ok TooManyIterations
-  -- for records of the chain of any zone, within the limit, the answer of that zone, as far as they
+  -- for records of the chain of any zone, within the limit: the answer of that zone, as far as they
   -- prove it
   pub zone : R.parameters.iterations ≤ limit → IfOk result (IsHashedAnswered R x t)
-  -- for any list at all, the answer is what the records say by themselves, those that it rests on
-  -- are there, and the labels that it counts are labels of the name
+  -- for any list at all: the answer is what the records alone say, those that it rests on are in
+  -- the list, and the labels that it counts are labels of the name
   pub exact : needs_no_records R.apex x t ≡ false → R.parameters.iterations ≤ limit
       → IfOk result (IsHashedRead R x t)
   pub proof : IfOk result (HashedRestsOn R x)
   pub within : IfOk result (CountsWithin (length x))
-  -- an error is the first refusal, or want of memory; and an answer comes only where no name that
-  -- is asked for is refused (`exact`)
+  -- an error is the first of the hasher, or out of memory; there is an answer only if the hasher
+  -- fails for no name that is looked up (`exact`)
   pub refusal : (n : ℕ) → IsErrOf result (Hasher n) → IsFirstOfRefusals R x t n
   pub errors : IfErr result (λ e. (e ≡ OutOfMemory) ⊎ ((n : ℕ) × (e ≡ Hasher n)))
 
--- of what they answer within limits: None where no record matches one of as many names as may be
--- hashed, from x towards the apex, and the apex is not among them
+-- the contract of what NSEC3 records answer within limits: None if no record matches any of the
+-- names that may be hashed, from x towards the apex, and the apex is not among them
 abbrev pub IsJudgedWithin : HashedRecords → Name → ℕ → Nsec3Limits
     → Result (Option Answer) Nsec3HashError → Type 0
 IsJudgedWithin R x t limits (Ok (Some answer)) = IsHashedJudged R x t limits.iterations (Ok answer)
@@ -54,23 +55,24 @@ IsJudgedWithin R x t limits (Ok None) =
     × IsPast R x limits.names
 IsJudgedWithin R x t limits (Err e) = IsHashedJudged R x t limits.iterations (Err e)
 
--- of what they answer of a name whose records were expanded from a wildcard, with signatures that
--- tell n labels
+-- the contract of what NSEC3 records answer for a name whose records were expanded from a wildcard,
+-- with signatures whose Labels field is n
 pub record IsExpansionJudged (R : HashedRecords) (x : Name) (n limit : ℕ)
     (result : Result Answer Nsec3HashError) : Type 0 where
   pub outside : is_at_or_below x R.apex ≡ false → result ≡ Ok OutsideZone
   pub none : is_at_or_below x R.apex ≡ true → is_expanded R.apex x n ≡ false → result ≡ Ok NotProven
   pub iterations : is_expanded R.apex x n ≡ true → limit < R.parameters.iterations
       → result ≡ Ok TooManyIterations
-  -- for records of the chain of any zone, within the limit, what they prove of the next closer name
+  -- for records of the chain of any zone, within the limit: what they prove about the next closer
+  -- name
   pub zone : is_expanded R.apex x n ≡ true → R.parameters.iterations ≤ limit
       → IfOk result (IsExpansionAnswered R x n)
-  -- for any list at all, the answer is what the records say by themselves, and those that it rests
-  -- on are there
+  -- for any list at all: the answer is what the records alone say, and those that it rests on are
+  -- in the list
   pub exact : is_expanded R.apex x n ≡ true → R.parameters.iterations ≤ limit
       → IfOk result (IsExpansionRead R x n)
   pub proof : IfOk result (ExpansionRestsOn R x n)
   pub within : IfOk result (CountsWithin (length x))
-  -- an error is the refusal of the one name that is hashed, or want of memory
+  -- an error is the hasher's for the one name that is hashed, or out of memory
   pub refusal : (m : ℕ) → IsErrOf result (Hasher m) → hash_name R.hash (closer_name n x) ≡ Err m
   pub errors : IfErr result (λ e. (e ≡ OutOfMemory) ⊎ ((m : ℕ) × (e ≡ Hasher m)))

@@ -1,4 +1,4 @@
--- What NSEC records answer by themselves, and what they prove of what the zone says.
+-- What NSEC records alone answer, and what they prove of what the zone says.
 use Rattle.std.specs.Prelude.{◌≡◌, List, Option, Some, None, IfSome, length, ℕ, Bool, not, ◌<◌, ◌&&◌, ◌||◌, if◌then◌else◌, true, ◌≤◌, All, false, ◌==◌, ◌⊎◌}
 use Rattle.std.specs.{List.find, Option.option_map}
 use Rattle.domain_names.specs.Name.{Name, is_at_or_below, is_strictly_below, last_labels, same_name}
@@ -14,19 +14,20 @@ use Rattle.domain_answer.specs.ZoneAnswer.{is_at_parent, wildcard_below, enclose
 use Rattle.domain_bitmap.specs.Blocks.{contains_type}
 use Rattle.domain_base.specs.Types.{dname, cname, ds}
 
--- ---- What one pass over NSEC records finds of a name; a is the apex.
+-- ---- What one pass over NSEC records finds for a name; a is the apex.
 
--- the record that covers
+-- the covering record
 abbrev pub cover_link : {O N : Type 0} → (N → Name) → NsecCover O N → Link
 cover_link labels c = as_link labels c.record.now
 
--- the longer of the names that x shares with its owner and its next name has so many labels
+-- `shared` is the number of labels of the longer of the names that x shares with the record's owner
+-- and its next name
 abbrev pub IsSharing : {O N : Type 0} → (N → Name) → Name → NsecCover O N → Type 0
 IsSharing labels x c =
     let k = cover_link labels c in
     c.shared ≡ length (longer (shared x k.owner) (shared x k.next))
 
--- the match that was found; the cover, which is looked for where there is no match
+-- the match that was found; the cover that was found, which only counts without a match
 abbrev pub found_match : {O N : Type 0} → (N → Name) → NsecFound O N → Option Link
 found_match labels (Match k) = Some (as_link labels k.now)
 found_match labels (NoMatch cover) = None
@@ -39,20 +40,19 @@ abbrev pub IsCovered : {O N : Type 0} → (N → Name) → Name → NsecFound O 
 IsCovered labels x (Match k) = Unit {0}
 IsCovered labels x (NoMatch cover) = IfSome cover (IsSharing labels x)
 
--- the first match of x and, where there is none, the first cover
+-- the first match of x or, if there is none, the first cover
 pub record IsFound (a : Name) (listed : List Link) (x : Name) (matched covered : Option Link)
     : Type 0 where
   pub matching : matched ≡ find (is_match a x) listed
   pub covering : matched ≡ None → covered ≡ find (is_cover a x) listed
 
--- ---- What NSEC records answer by themselves (RFC 4035, section 5.4; RFC 6840, sections 4.1, 4.3 and
--- 4.4).
+-- ---- What NSEC records alone answer (RFC 4035, section 5.4; RFC 6840, sections 4.1, 4.3 and 4.4).
 
 -- the record's owner is a zone cut or owns a DNAME record
 abbrev pub tells_occluder : Name → Link → Bool
 tells_occluder a k = is_at_cut a k || contains_type k.bits dname
 
--- and x is at or below that owner: the record denies nothing there (RFC 6840, section 4.1)
+-- such a record whose owner x is at or below: it denies nothing there (RFC 6840, section 4.1)
 abbrev pub tells_occluded : Name → Link → Name → Bool
 tells_occluded a k x = is_at_or_below x k.owner && tells_occluder a k
 
@@ -71,7 +71,7 @@ wildcard_cover_answer a n k w =
     if tells_occluded a k w then NoCloserName n else
     (if is_strictly_below k.next w then WildcardNoData n else NameError n)
 
--- a match counts before a cover
+-- a match takes precedence over a cover
 abbrev pub wildcard_both : Name → ℕ → Name → ℕ → Option Link → Option Link → Answer
 wildcard_both a n w t (Some k) covering = wildcard_types_answer (is_at_cut a k) k.bits n t
 wildcard_both a n w t None (Some k) = wildcard_cover_answer a n k w
@@ -85,8 +85,8 @@ wildcard_answer a listed n w t =
 abbrev pub absent_answer : Name → List Link → ℕ → Name → ℕ → Answer
 absent_answer a listed n x t = wildcard_answer a listed n (wildcard_below (last_labels n x)) t
 
--- what it says of a name that a record covers: the closest encloser is the longer of the names that
--- it shares with the owner and with the next name
+-- what the list says of a name that a record covers: the closest encloser is the longer of the
+-- names that x shares with the owner and with the next name
 abbrev pub cover_answer : Name → List Link → Link → Name → ℕ → Answer
 cover_answer a listed k x t =
     if tells_occluded a k x then owner_answer a k else
@@ -98,21 +98,22 @@ listed_both a listed x t (Some k) covering = match_answer a k t
 listed_both a listed x t None (Some k) = cover_answer a listed k x t
 listed_both a listed x t None None = NotProven
 
--- what it says of a name at or below the apex: of matches and of covers the first counts
+-- what the list says of a name at or below the apex: the first match counts, or else the first
+-- cover
 abbrev pub listed_answer : Name → List Link → Name → ℕ → Answer
 listed_answer a listed x t =
     listed_both a listed x t (find (is_match a x) listed) (find (is_cover a x) listed)
 
--- what it says of any name
+-- what the list says of any name
 abbrev pub reading : Name → List Link → Name → ℕ → Answer
 reading a listed x t =
     if not (is_at_or_below x a) then OutsideZone else
     (if is_at_parent a x t then AtParent else listed_answer a listed x t)
 
--- ---- before a wildcard is asked for
+-- ---- before a wildcard is looked up
 
--- what of an answer rests on no wildcard: all of it or, of a name that does not exist, how many
--- labels its closest encloser has
+-- the part of an answer that needs no wildcard: all of it or, for a name that does not exist, the
+-- number of labels of its closest encloser
 abbrev pub name_answer : Answer → NameAnswer
 name_answer (Wildcard n) = Absent n
 name_answer (WildcardAlias n) = Absent n
@@ -121,8 +122,8 @@ name_answer (NameError n) = Absent n
 name_answer (NoCloserName n) = Absent n
 name_answer answer = Given answer
 
--- so much of the answer is told, and where x does not exist, the whole answer is what the list says
--- of the wildcard below the closest encloser, which has fewer labels than x
+-- `told` is that part of the whole answer; if x does not exist, the whole answer is what the list
+-- says of the wildcard below the closest encloser, which has fewer labels than x
 pub record IsNameAnswer (whole : Answer) (a : Name) (listed : List Link) (x : Name) (t : ℕ)
     (told : NameAnswer) : Type 0 where
   pub exact : told ≡ name_answer whole
@@ -134,7 +135,7 @@ pub record IsNameAnswer (whole : Answer) (a : Name) (listed : List Link) (x : Na
 abbrev pub needs_no_records : Name → Name → ℕ → Bool
 needs_no_records a x t = not (is_at_or_below x a) || is_at_parent a x t
 
--- x is not occluded and does not exist, so that the wildcard below its closest encloser decides
+-- x is not occluded and does not exist: the wildcard below its closest encloser decides
 abbrev pub is_missing : List ZoneRecord → Name → Name → Bool
 is_missing L a x = is_unoccluded true L a x && not (name_exists L a x)
 
@@ -142,8 +143,8 @@ is_missing L a x = is_unoccluded true L a x && not (name_exists L a x)
 abbrev pub knows_wildcard : List ZoneRecord → Name → List Link → Name → Bool
 knows_wildcard L a listed x = has_match_or_cover listed (wildcard_below (encloser L a x))
 
--- the answer of the zone, where a record matches or covers x and, if the wildcard decides, one
--- matches or covers that; without the second no more than that there is no x
+-- the answer of the zone if a record matches or covers x and, if the wildcard decides, one matches
+-- or covers the wildcard; without the second, only that x does not exist
 abbrev pub proved_answer : List ZoneRecord → Name → Bool → List Link → Name → ℕ → Answer
 proved_answer L a assume listed x t =
     if needs_no_records a x t then zone_answer L a assume x t else
@@ -151,12 +152,12 @@ proved_answer L a assume listed x t =
     (if is_missing L a x && not (knows_wildcard L a listed x)
     then NoCloserName (length (encloser L a x)) else zone_answer L a assume x t))
 
--- a chain with this choice leaves out what stands below a DNAME, or nothing stands there
+-- a chain with this choice leaves out the names below a DNAME, or there are none
 abbrev pub LeavesOutBelowDname : List ZoneRecord → Name → Bool → Type 0
 LeavesOutBelowDname L a below_dname = unoccluded_owners below_dname L a ≡ unoccluded_owners true L a
 
--- the answer is what is proved of any zone of whose chain these are records, but for TTLs, classes
--- and the case of letters, in any order, with repeats
+-- the answer is what the records prove about any zone whose chain they are from, except for TTLs,
+-- classes and the case of letters, in any order, with repeats
 abbrev pub IsAnswered : List Link → Name → Name → ℕ → Answer → Type 0
 IsAnswered listed a x t answer =
     (L : List ZoneRecord) (config : GenerateNsecConfig) (links : List Link)
@@ -164,14 +165,14 @@ IsAnswered listed a x t answer =
     → IsChain L a config links → All (IsPairedIn IsAlike links) listed
     → answer ≡ proved_answer L a config.assume_dnskeys_will_be_added listed x t
 
--- a record that is not passed over matches or covers x, and one the wildcard below the last n
--- labels of x
+-- a record that is not ignored matches or covers x, and one matches or covers the wildcard below
+-- the last n labels of x
 abbrev pub HasBothProofs : List Link → Name → Name → ℕ → Type 0
 HasBothProofs listed a x n =
     HasProof listed a x × HasProof listed a (wildcard_below (last_labels n x))
 
--- the records that an answer rests on are there, whatever else the list has; NSEC records leave
--- nothing out, and hash no name
+-- the records that an answer rests on are in the list, whatever else it has; NSEC chains leave no
+-- delegation out, and hash no name
 abbrev pub RestsOn : List Link → Name → Name → Answer → Type 0
 RestsOn listed a x OutsideZone = Unit {0}
 RestsOn listed a x AtParent = Unit {0}
@@ -184,7 +185,7 @@ RestsOn listed a x TooManyIterations = ⊥
 RestsOn listed a x NotProven = Unit {0}
 RestsOn listed a x _ = HasProof listed a x
 
--- what an answer counts are labels of a name that has n; a closest encloser has fewer
+-- the labels that an answer counts are labels of a name that has n; a closest encloser has fewer
 abbrev pub CountsWithin : ℕ → Answer → Type 0
 CountsWithin n (Referral count) = count ≤ n
 CountsWithin n (Redirected count) = count ≤ n
@@ -196,11 +197,11 @@ CountsWithin n (MayBeUnsigned count) = count < n
 CountsWithin n (NoCloserName count) = count < n
 CountsWithin n _ = Unit {0}
 
--- ---- When each kind of answer is the zone's, each by itself and in any order; L are the zone's records
--- and a is the apex.
+-- ---- When each kind of answer is the zone's, each defined separately and in any order; L are the
+-- zone's records and a is the apex.
 
--- a zone cut o of n labels that is not occluded: x is strictly below it, or is it and the type is
--- not DS
+-- a zone cut of n labels is not occluded, and x is strictly below it, or is the cut itself and the
+-- type is not DS
 pub record IsReferred (L : List ZoneRecord) (a x : Name) (t n : ℕ) : Type 0 where
   pub cut : Name
   pub count : n ≡ length cut
@@ -208,8 +209,8 @@ pub record IsReferred (L : List ZoneRecord) (a x : Name) (t n : ℕ) : Type 0 wh
   pub free : is_unoccluded true L a cut ≡ true
   pub below : (is_strictly_below x cut ≡ true) ⊎ ((same_name x cut ≡ true) × ((t == ds) ≡ false))
 
--- an owner of n labels of a DNAME record that is no zone cut and not occluded, and that x is
--- strictly below
+-- an owner of a DNAME record has n labels, is no zone cut and is not occluded, and x is strictly
+-- below it
 pub record IsRedirected (L : List ZoneRecord) (a x : Name) (n : ℕ) : Type 0 where
   pub owner : Name
   pub count : n ≡ length owner
@@ -218,7 +219,7 @@ pub record IsRedirected (L : List ZoneRecord) (a x : Name) (n : ℕ) : Type 0 wh
   pub free : is_unoccluded true L a owner ≡ true
   pub below : is_strictly_below x owner ≡ true
 
--- x is not occluded, and its parent zone is not the one to answer
+-- x is not occluded, and the question is not one that the parent zone answers
 pub record IsHere (L : List ZoneRecord) (a x : Name) (t : ℕ) : Type 0 where
   pub free : is_unoccluded true L a x ≡ true
   pub child : is_at_parent a x t ≡ false
@@ -232,7 +233,7 @@ pub record IsAbsent (L : List ZoneRecord) (a x : Name) (t n : ℕ) : Type 0 wher
 abbrev pub wildcard_of : List ZoneRecord → Name → Name → Name
 wildcard_of L a x = wildcard_below (encloser L a x)
 
--- what is so where this is the zone's answer
+-- what holds if this is the zone's answer
 abbrev pub IsSo : List ZoneRecord → Name → Bool → Name → ℕ → Answer → Type 0
 IsSo L a assume x t OutsideZone = is_at_or_below x a ≡ false
 IsSo L a assume x t AtParent = is_at_parent a x t ≡ true

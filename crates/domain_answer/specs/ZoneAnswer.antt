@@ -10,9 +10,10 @@ use Rattle.domain_zone.specs.{Enclosers.exists_over, Zone.{ZoneRecord, is_zone_c
 use Rattle.domain_nsec.specs.Chain.{nsec_lists}
 use Rattle.domain_checker.specs.Verdict.{closest_encloser}
 
--- ---- What the types that a name owns, or that its record lists, say of a question.
+-- ---- What the types that a name owns, or that its record lists, answer to a question.
 
--- of a question for t at a name that has n labels, is a zone cut or not, and owns these types
+-- the answer for type t at a name that has n labels and owns these types; at_cut says whether it is
+-- a zone cut
 abbrev pub owned_answer : Bool → (ℕ → Bool) → ℕ → ℕ → Answer
 owned_answer at_cut owns n t =
     if at_cut && not (t == ds) then Referral n else
@@ -20,19 +21,19 @@ owned_answer at_cut owns n t =
     (if at_cut then NoDs else
     (if owns cname then Alias else NoData)))
 
--- where that name is a wildcard: of a name whose closest encloser, right above the wildcard, has n
--- labels
+-- the answer if that name is a wildcard, for a name whose closest encloser, right above the
+-- wildcard, has n labels
 abbrev pub expanded_answer : Bool → (ℕ → Bool) → ℕ → ℕ → Answer
 expanded_answer at_cut owns n t =
     if owns t || at_cut then Wildcard n else
     (if owns cname then WildcardAlias n else WildcardNoData n)
 
--- a zone cut whose record lists SOA is the apex of a child zone, and the record that zone's: the
--- parent's does not list it (RFC 5155, section 8.9; RFC 6840, section 4.4)
+-- a zone cut whose record lists SOA is the apex of a child zone, and the record is from the child
+-- zone: the parent's record does not list SOA (RFC 5155, section 8.9; RFC 6840, section 4.4)
 abbrev pub is_of_child : Bool → Octets → Bool
 is_of_child at_cut bits = at_cut && contains_type bits soa
 
--- by the types that a record lists
+-- the same by the types that a record lists
 abbrev pub types_answer : Bool → Octets → ℕ → ℕ → Answer
 types_answer at_cut bits n t =
     if is_of_child at_cut bits then NotProven else owned_answer at_cut (contains_type bits) n t
@@ -40,24 +41,24 @@ types_answer at_cut bits n t =
 abbrev pub wildcard_types_answer : Bool → Octets → ℕ → ℕ → Answer
 wildcard_types_answer at_cut bits n t = expanded_answer at_cut (contains_type bits) n t
 
--- ---- What a zone says of a name and a type (RFC 1034, section 4.3.2; RFC 4592, section 3.3; RFC 6672,
--- section 3.2), over its records L alone; a is the apex. A name of the zone is one that is not
--- occluded, where owners of DNAME records occlude too: nothing below them is a name of the zone
+-- ---- What a zone answers for a name and a type (RFC 1034, section 4.3.2; RFC 4592, section 3.3;
+-- RFC 6672, section 3.2), over its records L alone; a is the apex. A name of the zone is one that
+-- is not occluded. Owners of DNAME records occlude too: nothing below them is a name of the zone
 -- (RFC 6672, section 2.4).
 
 -- x is an owner that is not occluded, or an ancestor of one
 abbrev pub name_exists : List ZoneRecord → Name → Name → Bool
 name_exists L a x = exists_over (unoccluded_owners true L a) a x
 
--- x owns records, and type t is one that its NSEC record lists
+-- x owns records, and its NSEC record lists type t
 abbrev pub owns_type : List ZoneRecord → Name → Bool → Name → ℕ → Bool
 owns_type L a assume x t = owns L x && nsec_lists L a assume x t
 
--- the longest name that exists and that x is at or below
+-- the longest existing name that x is at or below
 abbrev pub encloser : List ZoneRecord → Name → Name → Name
 encloser L a x = closest_encloser (unoccluded_owners true L a) a x
 
--- of the names strictly above x the highest one that occludes
+-- the highest name strictly above x that occludes
 abbrev pub highest_occluder : List ZoneRecord → Name → Name → Option Name
 highest_occluder L a [] = None
 highest_occluder L a (l ∷ x) =
@@ -70,17 +71,18 @@ asterisk = 42 ∷ []
 abbrev pub wildcard_below : Name → Name
 wildcard_below x = asterisk ∷ x
 
--- of what is strictly below the highest occluder o
+-- the answer for a name strictly below the highest occluder o
 abbrev pub occluded_answer : List ZoneRecord → Name → Name → Answer
 occluded_answer L a o = if is_zone_cut L a o then Referral (length o) else Redirected (length o)
 
--- of a name that does not exist, whose closest encloser, right above the wildcard w, has n labels
+-- the answer for a name that does not exist, whose closest encloser, right above the wildcard w,
+-- has n labels
 abbrev pub missing_answer : List ZoneRecord → Name → Bool → ℕ → Name → ℕ → Answer
 missing_answer L a assume n w t =
     if not (name_exists L a w) then NameError n else
     expanded_answer (is_zone_cut L a w) (owns_type L a assume w) n t
 
--- of a name that is not occluded
+-- the answer for a name that is not occluded
 abbrev pub unoccluded_answer : List ZoneRecord → Name → Bool → Name → ℕ → Answer
 unoccluded_answer L a assume x t =
     let e = encloser L a x in
@@ -92,11 +94,11 @@ abbrev pub inside_answer : List ZoneRecord → Name → Bool → Name → ℕ �
 inside_answer L a assume x t None = unoccluded_answer L a assume x t
 inside_answer L a assume x t (Some o) = occluded_answer L a o
 
--- DS records of the apex are the parent's
+-- DS records of the apex are in the parent zone
 abbrev pub is_at_parent : Name → Name → ℕ → Bool
 is_at_parent a x t = (t == ds) && same_name x a
 
--- the first that holds
+-- the first case that holds
 abbrev pub zone_answer : List ZoneRecord → Name → Bool → Name → ℕ → Answer
 zone_answer L a assume x t =
     if not (is_at_or_below x a) then OutsideZone else

@@ -1,4 +1,4 @@
-//! What NSEC3 records answer of a name whose records were expanded from a wildcard.
+//! What NSEC3 records prove about a name whose records were expanded from a wildcard.
 ghost use Rattle.std.specs.Prelude.{◌≡◌, IsErrOf};
 ghost use Rattle.domain_hasher.specs.declared.error.Nsec3HashError.TheVariants as hash_error;
 ghost use Rattle.domain_checker.specs.HashedVerdict.{hashed_records};
@@ -14,36 +14,41 @@ use domain_nsec3::Nsec3Records;
 use domain_octets::Octets;
 use std::alloc::Global;
 
-/// Whether the name is in the zone, longer than its last labels, so many, and these no fewer than
-/// the apex has.
+/// Returns whether the name is at or below the apex, has more than `labels` labels, and the apex
+/// has no more than `labels`.
 pub(crate) fn is_expanded<A: ToName, M: ToName>(apex: &A, name: &M, labels: usize) -> bool
     ensures { result ≡ is_expanded (A.labels apex.now) (M.labels name.now) labels }
 {
     name.ends_with(apex) && apex.count_labels() <= labels && labels < name.count_labels()
 }
 
-/// What NSEC3 records answer of a name whose records were expanded from a wildcard (RFC 5155,
-/// section 8.8; RFC 4035, section 5.3.4). The signatures of such records have as their field Labels
-/// how many labels the closest encloser has, right below which the wildcard stands; no record of it
-/// comes with the answer, but one that covers the next closer name, which is one label longer.
+/// Returns what NSEC3 records prove about a name whose records were expanded from a wildcard (RFC
+/// 5155, section 8.8; RFC 4035, section 5.3.4). Pass the Labels field of their signatures as
+/// `labels`: the number of labels of the closest encloser, right below which the wildcard is. The
+/// answer comes with no record of the closest encloser, but with one that covers the next closer
+/// name, which is one label longer.
 ///
-/// The records may be any, and are passed over, as by `judge_nsec3`. Where one covers the next
-/// closer name, and none matches it, the answer is `NoCloserName` with these labels: there is no
-/// next closer name, and so not the name either, and the wildcard is the one right below its
-/// closest encloser. Where the record has the flag of opt-out it is `MayBeUnsigned`: the next
-/// closer name may be an unsigned delegation. Of several that match or cover it the first counts.
-/// Where none does, or one matches it, the answer is `NotProven`; so it is where the labels are
-/// fewer than the apex has, or not fewer than the name has. Where the NSEC3PARAM record has more
-/// iterations than the limit, it is `TooManyIterations` (RFC 9276, section 3.2), and of a name
-/// outside of the zone `OutsideZone`.
+/// The records may be any; `judge_nsec3` says which are ignored. The first that matches or covers
+/// the next closer name counts:
 ///
-/// One name is hashed, the next closer name, and the records are gone over once; for the other
-/// answers no name is. Takes no memory but for the hasher's answer. The records' signatures, and
-/// those of the wildcard's records, are not looked at.
+/// - `NoCloserName` with these labels, if a record covers it and none matches: the next closer name
+///   does not exist. So the name does not exist either, and the wildcard is the one right below its
+///   closest encloser.
+/// - `MayBeUnsigned`, if that record has the opt-out flag: the next closer name may be an unsigned
+///   delegation.
+/// - `NotProven`, if no record covers it, or one matches it. Also if `labels` is less than the apex
+///   has, or not less than the name has.
+/// - `TooManyIterations`, if the NSEC3PARAM record has more iterations than the limit (RFC 9276,
+///   section 3.2).
+/// - `OutsideZone`, for a name outside the zone.
+///
+/// Hashes only the next closer name, and reads the records once. The last two answers, and
+/// `NotProven` because of `labels`, need no hash. Allocates nothing but the hasher's digest.
+/// Signatures are not verified, neither of these records nor of the wildcard's.
 ///
 /// # Errors
 ///
-/// `Hasher` with the number of the hasher's refusal, and `OutOfMemory` where it has none.
+/// `Hasher` with the number of the hasher's error, and `OutOfMemory` if the hasher has no memory.
 pub fn judge_nsec3_expansion<A: ToName, O: Octets, N: ToName, M: ToName, H: Nsec3Hasher>(
     alloc: Global,
     apex: &A,
@@ -69,7 +74,7 @@ pub fn judge_nsec3_expansion<A: ToName, O: Octets, N: ToName, M: ToName, H: Nsec
     }
     // By this law what the records say is what they prove.
     hashed_chains_are_known();
-    // The count of labels is a usize, so that one more than fewer is.
+    // The count of labels is a usize, and a smaller number plus one is too.
     let _count = name.count_labels();
     let closer = name.last_labels(labels + 1);
     match find_nsec3(alloc, apex, records, &closer, hasher)? {

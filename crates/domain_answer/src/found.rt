@@ -1,4 +1,4 @@
-//! What one pass over NSEC records finds of a name.
+//! What one pass over NSEC records finds for a name.
 ghost use Rattle.domain_nsec.specs.Chain.{links_of};
 ghost use Rattle.domain_answer.specs.Reading.{found_cover, found_match, IsCovered, IsFound};
 
@@ -11,21 +11,21 @@ use domain_octets::Octets;
 pub struct NsecCover<'a, O: Octets, N: ToName> {
     /// The record.
     pub record: &'a NsecRr<O, N>,
-    /// How many labels the longer has of the names that the name shares with the owner and with the
-    /// next name: the closest encloser, where there is no such name.
+    /// The larger number of labels that the name shares with the owner and with the next name:
+    /// those of the closest encloser, if the name does not exist.
     pub shared: usize,
 }
 
-/// What one pass over records finds of a name.
+/// What one pass over records finds for a name.
 pub enum NsecFound<'a, O: Octets, N: ToName> {
-    /// The first record that matches it.
+    /// The first record that matches the name.
     Match(&'a NsecRr<O, N>),
-    /// No record matches it, and this is the first that covers it, if one does.
+    /// No record matches the name; this is the first that covers it, if one does.
     NoMatch(Option<NsecCover<'a, O, N>>),
 }
 
-/// The first record that matches the name or, where none does, the first that covers it. Records
-/// whose owner or next name is not at or below the apex are passed over.
+/// Returns the first record that matches the name or, if none does, the first that covers it. A
+/// record is ignored if its owner or next name is not at or below the apex.
 #[tactic(auto, using(std::proofs::lemmas::Grind::common_steps))]
 pub fn find_nsec<'a, A: ToName, O: Octets, N: ToName, M: ToName>(
     apex: &A,

@@ -1,4 +1,4 @@
-//! What NSEC3 records that were read once answer to questions, within limits.
+//! What NSEC3 records of an index answer to questions, within limits.
 ghost use Rattle.std.specs.{Option.option_map, Prelude.{◌≡◌, ◌<◌, Err, length, IfErr, IfOk, IsErrOf}};
 ghost use Rattle.domain_names.specs.Name.{last_labels};
 ghost use Rattle.domain_nsec3.specs.{Chain.{hash_name, IsNoHash}, View.hash_by};
@@ -20,8 +20,8 @@ use domain_hasher::{Nsec3HashError, Nsec3Hasher};
 use domain_octets::Octets;
 use std::alloc::Global;
 
-/// What the records say of a name with so many labels by its closest encloser; None where more
-/// names would have to be hashed.
+/// Returns what the records say of a name with `labels` labels, given its closest encloser, or None
+/// if more names would have to be hashed.
 fn searched_answer<A: ToName, O: Octets, N: ToName>(
     apex: &A,
     found: Nsec3Search<'_, O, N>,
@@ -38,8 +38,8 @@ fn searched_answer<A: ToName, O: Octets, N: ToName>(
     }
 }
 
-/// What the records say of a name that does not exist, whose closest encloser has so many labels.
-/// Hashes the wildcard below that one, and no other name.
+/// Returns what the records say of a name that does not exist, whose closest encloser has `count`
+/// labels. Hashes the wildcard below the closest encloser, and no other name.
 fn read_wildcard<O: Octets, N: ToName, M: ToName, H: Nsec3Hasher>(
     alloc: Global,
     index: &Nsec3Index<'_, O, N>,
@@ -62,22 +62,22 @@ fn read_wildcard<O: Octets, N: ToName, M: ToName, H: Nsec3Hasher>(
     Ok(wildcard_told(count, rtype, found))
 }
 
-/// What NSEC3 records that were read once answer to a question about a name and a type, as
-/// `judge_nsec3` answers it, where it takes no more work than the limits allow.
+/// Returns what NSEC3 records of an index answer to a question about a name and a type, as
+/// `judge_nsec3` does, if that takes no more work than the limits allow.
 ///
-/// None where more names than the limit would have to be hashed to reach the closest encloser
-/// (CVE-2023-50868): of as many names from the name up no record matches one, and the apex is not
-/// among them. A resolver answers this with SERVFAIL, as what is not proven, and never takes it for
-/// insecure: whoever asks chooses how many labels the name has.
+/// Returns None if more names than the limit would have to be hashed to reach the closest encloser
+/// (CVE-2023-50868): no record matches any of the names that may be hashed, from the name up, and
+/// the apex is not among them. A resolver must answer SERVFAIL then, as for `NotProven`, and must
+/// never treat the name as insecure: the client chooses how many labels a name has.
 ///
-/// Each name is hashed at most once, and the wildcard besides. Its hash is found by a search or,
-/// where records overlap, by a comparison with each of them. Takes no memory but for the hasher's
-/// answers, one at a time.
+/// Each name is hashed at most once, and the wildcard in addition. Its hash is found by a search
+/// or, if records overlap, by comparing it with each of them. Allocates nothing but the hasher's
+/// digests, one at a time.
 ///
 /// # Errors
 ///
-/// `Hasher` with the number of the first refusal among the hashes that are asked for, and
-/// `OutOfMemory` where the hasher has none.
+/// `Hasher` with the number of the first error among the hashes that are computed, and
+/// `OutOfMemory` if the hasher has no memory.
 pub fn judge_nsec3_within<O: Octets, N: ToName, M: ToName, H: Nsec3Hasher>(
     alloc: Global,
     index: &Nsec3Index<'_, O, N>,
@@ -100,7 +100,7 @@ pub fn judge_nsec3_within<O: Octets, N: ToName, M: ToName, H: Nsec3Hasher>(
     if index.iterations() > limits.iterations {
         return Ok(Some(Answer::TooManyIterations));
     }
-    // By this law what the records say is what they prove, of a type of 16 bits.
+    // By this law what the records say is what they prove, for a type of 16 bits.
     hashed_chains_are_known();
     let _number = rtype.to_int();
     let found = index.find_encloser_within(alloc, name, limits.names, hasher)?;
@@ -115,14 +115,14 @@ pub fn judge_nsec3_within<O: Octets, N: ToName, M: ToName, H: Nsec3Hasher>(
     }
 }
 
-/// What NSEC3 records that were read once answer to a question about a name and a type, as
-/// `judge_nsec3` answers it. So at most 128 names are hashed, and the wildcard. Takes no memory but
-/// for the hasher's answers, one at a time.
+/// Returns what NSEC3 records of an index answer to a question about a name and a type, as
+/// `judge_nsec3` does. Hashes at most 128 names, and the wildcard. Allocates nothing but the
+/// hasher's digests, one at a time.
 ///
 /// # Errors
 ///
-/// `Hasher` with the number of the first refusal among the hashes that are asked for, and
-/// `OutOfMemory` where the hasher has none.
+/// `Hasher` with the number of the first error among the hashes that are computed, and
+/// `OutOfMemory` if the hasher has no memory.
 pub fn judge_nsec3_index<O: Octets, N: ToName, M: ToName, H: Nsec3Hasher>(
     alloc: Global,
     index: &Nsec3Index<'_, O, N>,
@@ -148,12 +148,12 @@ pub fn judge_nsec3_index<O: Octets, N: ToName, M: ToName, H: Nsec3Hasher>(
     }
 }
 
-/// What NSEC3 records that were read once answer of a name whose records were expanded from a
-/// wildcard, as `judge_nsec3_expansion` answers it. At most one name is hashed.
+/// Returns what NSEC3 records of an index prove about a name whose records were expanded from a
+/// wildcard, as `judge_nsec3_expansion` does. Hashes at most one name.
 ///
 /// # Errors
 ///
-/// `Hasher` with the number of the hasher's refusal, and `OutOfMemory` where it has none.
+/// `Hasher` with the number of the hasher's error, and `OutOfMemory` if the hasher has no memory.
 pub fn judge_nsec3_index_expansion<O: Octets, N: ToName, M: ToName, H: Nsec3Hasher>(
     alloc: Global,
     index: &Nsec3Index<'_, O, N>,
@@ -178,7 +178,7 @@ pub fn judge_nsec3_index_expansion<O: Octets, N: ToName, M: ToName, H: Nsec3Hash
     }
     // By this law what the records say is what they prove.
     hashed_chains_are_known();
-    // The count of labels is a usize, so that one more than fewer is.
+    // The count of labels is a usize, and a smaller number plus one is too.
     let _count = name.count_labels();
     let closer = name.last_labels(labels + 1);
     match index.find_name(alloc, &closer, hasher)? {

@@ -1,4 +1,4 @@
-//! What holds of answers, and of what records say. A caller calls the law in its body.
+//! Laws of answers, and of what records say. To use a law, call it in a function body.
 ghost use Rattle.std.specs.Prelude.{◌≡◌, ◌≢◌, ◌<◌, ℕ, Bool, All, List, length, true, false};
 ghost use Rattle.domain_octets.specs.Octets.{Octets};
 ghost use Rattle.domain_names.specs.Name.{is_at_or_below, last_labels, Name};
@@ -23,8 +23,8 @@ ghost use Rattle.domain_answer.specs.declared.answer.Answer.TheVariants.{TooMany
 use domain_checker::laws::{chains_are_known, hashed_chains_are_known};
 use domain_nsec3::laws as nsec3_laws;
 
-/// Each kind of answer is the zone's exactly where what it says is so; of each name and type
-/// exactly one kind holds.
+/// An answer is the zone's if and only if what its kind states is so. For each name and type,
+/// exactly one kind of answer holds.
 #[tactic(auto, using(crate::proofs::EncloserLemmas::answer_so, crate::proofs::EncloserLemmas::so_answer))]
 pub fn one_kind_of_answer_holds()
     ensures so { (L : List ZoneRecord) (a : Name) (assume : Bool) (x : Name) (t : ℕ)
@@ -33,8 +33,8 @@ pub fn one_kind_of_answer_holds()
         (answer : Answer) → IsSo L a assume x t answer → zone_answer L a assume x t ≡ answer }
 {}
 
-/// What any NSEC records say by themselves is what they prove of the zone; the records that the
-/// answer rests on are among them; and the labels that it counts are labels of the name.
+/// What any NSEC records say is what they prove about the zone. The records that the answer rests
+/// on are among them, and the labels that it counts are labels of the name.
 pub fn readings_are_proved()
     ensures zone { (listed : List Link) (a x : Name) (t : ℕ) → t < 65536
         → IsAnswered listed a x t (reading a listed x t) }
@@ -46,16 +46,16 @@ pub fn readings_are_proved()
     chains_are_known();
 }
 
-/// What NSEC records answer does not depend on TTLs, classes and the case of letters; nor does what
-/// they prove of a zone (`readings_are_proved`).
+/// What NSEC records answer does not depend on TTLs, classes and the case of letters. Nor does what
+/// they prove about a zone (`readings_are_proved`).
 #[tactic(auto, using(crate::proofs::AlikeLemmas::reading_alike))]
 pub fn readings_ignore_case_and_ttl()
     ensures { (listed other : List Link) (a x : Name) (t : ℕ)
         → ArePaired IsAlike listed other → reading a listed x t ≡ reading a other x t }
 {}
 
-/// The whole chain of a zone proves what the zone says of every name and type, and the zone says
-/// something of each, also of each wildcard.
+/// The whole chain of a zone proves what the zone answers for every name and type. The zone has an
+/// answer for each, wildcards included.
 #[tactic(auto, using(crate::proofs::ChainLemmas::whole_proves, crate::proofs::EncloserLemmas::answer_so))]
 pub fn whole_chains_prove_all()
     ensures zone { (L : List ZoneRecord) (a : Name) (config : GenerateNsecConfig)
@@ -71,9 +71,9 @@ pub fn whole_chains_prove_all()
     chains_are_known();
 }
 
-/// A chain, NSEC or NSEC3, leaves out the names below an owner of a DNAME record where that was
-/// chosen, where the zone has no such record, and where it has none below one that is not below a
-/// zone cut too.
+/// A chain, NSEC or NSEC3, leaves out the names below an owner of a DNAME record in each of three
+/// cases: this was chosen, or the zone has no such record, or each name below one is below a zone
+/// cut too.
 #[tactic(auto, using(crate::proofs::ChainLemmas::left_out_without_dname, crate::proofs::ChainLemmas::none_left_out))]
 pub fn chains_leave_out_names_below_dname()
     ensures chosen { (L : List ZoneRecord) (a : Name) (below_dname : Bool) → below_dname ≡ true
@@ -87,8 +87,8 @@ pub fn chains_leave_out_names_below_dname()
 
 // ---- NSEC3
 
-/// What any NSEC3 records say by themselves is what they prove of the zone; the records that the
-/// answer rests on are among them; and the labels that it counts are labels of the name.
+/// What any NSEC3 records say is what they prove about the zone. The records that the answer rests
+/// on are among them, and the labels that it counts are labels of the name.
 pub fn hashed_readings_are_proved()
     ensures zone { (R : HashedRecords) (x : Name) (t : ℕ) (answer : Answer) → t < 65536
         → is_at_or_below x R.apex ≡ true → is_at_parent R.apex x t ≡ false
@@ -102,8 +102,8 @@ pub fn hashed_readings_are_proved()
 }
 
 /// What any NSEC3 records say of a name whose records were expanded from a wildcard is what they
-/// prove of the zone; the records that the answer rests on are among them; and the labels that it
-/// counts are fewer than those of the name. In a zone that has the wildcard, and no next closer
+/// prove about the zone. The records that the answer rests on are among them, and the labels that
+/// it counts are fewer than those of the name. If the zone has the wildcard, and no next closer
 /// name, the wildcard is the one right below the closest encloser.
 pub fn expansions_are_proved()
     ensures zone { (R : HashedRecords) (x : Name) (n : ℕ) (answer : Answer)
@@ -123,23 +123,23 @@ pub fn expansions_are_proved()
     hashed_chains_are_known();
 }
 
-/// What NSEC3 records answer does not depend on TTLs, classes and the case of letters; nor does
-/// what they prove of a zone (`hashed_readings_are_proved`).
+/// What NSEC3 records answer does not depend on TTLs, classes and the case of letters. Nor does
+/// what they prove about a zone (`hashed_readings_are_proved`).
 pub fn hashed_readings_ignore_case_and_ttl()
     ensures { (R : HashedRecords) (other : List HashedLink) (x : Name) (t : ℕ) (answer : Answer)
         → ArePaired IsHashedAlike R.links other → IsHashedRead R x t answer
         → IsHashedRead (with_links R other) x t answer }
 {}
 
-/// The same of a name whose records were expanded from a wildcard (`expansions_are_proved`).
+/// The same holds for a name whose records were expanded from a wildcard (`expansions_are_proved`).
 pub fn expansions_ignore_case_and_ttl()
     ensures { (R : HashedRecords) (other : List HashedLink) (x : Name) (n : ℕ) (answer : Answer)
         → ArePaired IsHashedAlike R.links other → IsExpansionRead R x n answer
         → IsExpansionRead (with_links R other) x n answer }
 {}
 
-/// The whole NSEC3 chain of a zone proves what the zone says of every name and type, where no other
-/// name of the chain has a hash that is asked for; and the zone says something of each.
+/// The whole NSEC3 chain of a zone proves what the zone answers for every name and type. For this,
+/// no other name of the chain may have a hash that is looked up. The zone has an answer for each.
 #[tactic(auto, using(crate::proofs::HashedAnswerLemmas::whole_proves, crate::proofs::HashedAnswerLemmas::zone_says))]
 pub fn hashed_whole_chains_prove_all()
     ensures zone { (L : List ZoneRecord) (a : Name) (config : ChainConfig)
@@ -157,9 +157,9 @@ pub fn hashed_whole_chains_prove_all()
     hashed_chains_are_known();
 }
 
-/// The whole NSEC3 chain of a zone proves of each name that was expanded from a wildcard that the
-/// zone does not have the next closer name, where it does not and no name of the chain has the hash
-/// of that.
+/// For each name that was expanded from a wildcard, the whole NSEC3 chain of a zone proves that the
+/// next closer name does not exist. This holds if that name does not exist and no name of the chain
+/// has its hash.
 #[tactic(auto, using(crate::proofs::HashedAnswerLemmas::whole_closer))]
 pub fn hashed_whole_chains_prove_expansions()
     ensures { (L : List ZoneRecord) (a : Name) (config : ChainConfig) (links : List HashedLink)
@@ -171,9 +171,9 @@ pub fn hashed_whole_chains_prove_expansions()
     hashed_chains_are_known();
 }
 
-/// Where its NSEC3 chain has no flag of opt-out, a zone answers with that as with an NSEC chain, of
-/// every name and of every type that both list alike: all but NSEC and, at the apex, NSEC3PARAM.
-/// The apex exists, as it does where there is a chain.
+/// If its NSEC3 chain has no opt-out flag, a zone gives the same answers with it as with an NSEC
+/// chain. This holds for every name, and for every type that both list alike: all but NSEC and, at
+/// the apex, NSEC3PARAM. The apex must exist, as it does if there is a chain.
 pub fn zones_without_opt_out_answer_alike()
     ensures zone { (L : List ZoneRecord) (a : Name) (config : ChainConfig) (x : Name) (t : ℕ)
         → is_opt_out config.flags ≡ false → LeavesOutBelowDname L a config.occlude_below_dname

@@ -1,18 +1,17 @@
-//! What a few records of a denial chain answer to a question about a name and a type, as a whole:
-//! that the name does not exist, and no wildcard either; that it exists without data of the type;
-//! that it is delegated, redirected or an alias (RFC 4035, section 5.4; RFC 4592; RFC 6672; RFC
-//! 6840, section 4).
+//! What a few records of a denial chain answer to a question about a name and a type, as a whole.
+//! The name does not exist, and no wildcard either; or it exists without data of the type; or it is
+//! delegated, redirected or an alias (RFC 4035, section 5.4; RFC 4592; RFC 6672; RFC 6840, section
+//! 4).
 //!
-//! `judge_nsec` is handed records of an NSEC chain, any of them, in any order, and no zone. Its
-//! answer is what the zone itself says, or that these records do not prove it. What a zone says
-//! stands in `specs/ZoneAnswer`, over its records alone; what records of its chain prove of that in
-//! `specs/Proved`; what they say by themselves in `specs/Reading`.
+//! `judge_nsec` takes records of an NSEC chain, any of them, in any order, and no zone. It returns
+//! what the zone itself answers, or that these records do not prove it. `specs/ZoneAnswer` defines
+//! what a zone answers, over its records alone. `specs/Reading` defines what records of its chain
+//! say, and what they prove.
 //!
-//! `judge_nsec3` is handed records of an NSEC3 chain and the NSEC3PARAM record in the same way, and
-//! asks a hasher for the hashes of names. Here what a zone says stands in `specs/HashedZoneAnswer`,
-//! what records of its chain prove of that in `specs/HashedProved`, and what they say by themselves
-//! in `specs/HashedReading`. `judge_nsec3_expansion` is asked of a name whose records were expanded
-//! from a wildcard; what it answers stands in `specs/Expansion`.
+//! `judge_nsec3` takes records of an NSEC3 chain and the NSEC3PARAM record in the same way, and a
+//! hasher for the hashes of names. `specs/HashedReading` defines what such a zone answers, what
+//! records of its chain say, and what they prove. `judge_nsec3_expansion` judges a name whose
+//! records were expanded from a wildcard.
 #![tactic(auto)]
 
 mod answer;

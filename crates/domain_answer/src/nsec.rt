@@ -14,14 +14,14 @@ use domain_checker::{NsecRr, is_at_cut, is_strictly_below};
 use domain_octets::Octets;
 use domain_record::Record;
 
-/// Whether the parent zone answers: the type is DS and the name is the apex.
+/// Returns whether the parent zone answers: the type is DS and the name is the apex.
 pub fn is_at_parent<A: ToName, M: ToName>(apex: &A, name: &M, rtype: Rtype) -> bool
     ensures { result ≡ is_at_parent (A.labels apex.now) (M.labels name.now) rtype }
 {
     rtype == Rtype::DS && name.name_eq(apex)
 }
 
-/// Whether the owner is a zone cut or owns a DNAME record, and the name is at or below it.
+/// Returns whether the owner is a zone cut or owns a DNAME record, and the name is at or below it.
 fn tells_occluded<A: ToName, O: Octets, N: ToName, M: ToName>(
     apex: &A,
     listed: &NsecRr<O, N>,
@@ -34,9 +34,10 @@ fn tells_occluded<A: ToName, O: Octets, N: ToName, M: ToName>(
         && (is_at_cut(apex, listed) || listed.data().types().contains(Rtype::DNAME))
 }
 
-/// What records of an NSEC chain answer to a question about a type and a name that is known not to
-/// exist, whose closest encloser has so many labels: what they say of the wildcard right below that
-/// one (RFC 4035, section 3.1.3.4), which is handed in. `NoCloserName` where they don't say.
+/// Returns what records of an NSEC chain answer to a question about a type and a name that is known
+/// not to exist, whose closest encloser has `count` labels. Pass the wildcard right below the
+/// closest encloser as `wildcard` (RFC 4035, section 3.1.3.4): the answer is what the records say
+/// of it, or `NoCloserName` if they say nothing.
 pub fn judge_wildcard<A: ToName, O: Octets, N: ToName>(
     apex: &A,
     chain: &[Record<N, Nsec<O, N>>],
@@ -66,9 +67,9 @@ pub fn judge_wildcard<A: ToName, O: Octets, N: ToName>(
     }
 }
 
-/// What records of an NSEC chain answer to a question about a name and a type, but for what they
-/// say of the wildcard below the closest encloser of a name that does not exist: `judge_wildcard`
-/// has that (RFC 4035, section 3.1.3.4).
+/// Returns what records of an NSEC chain answer to a question about a name and a type, without a
+/// wildcard. If the name does not exist, call `judge_wildcard` for the wildcard below its closest
+/// encloser (RFC 4035, section 3.1.3.4).
 pub fn judge_name<A: ToName, O: Octets, N: ToName, M: ToName>(
     apex: &A,
     chain: &[Record<N, Nsec<O, N>>],
@@ -110,21 +111,22 @@ pub fn judge_name<A: ToName, O: Octets, N: ToName, M: ToName>(
     NameAnswer::Absent(cover.shared)
 }
 
-/// What records of an NSEC chain answer to a question about a name and a type (RFC 4035, section
-/// 5.4; RFC 6840, sections 4.1, 4.3 and 4.4). Takes no memory, and goes over the records twice at
-/// most.
+/// Returns what records of an NSEC chain answer to a question about a name and a type (RFC 4035,
+/// section 5.4; RFC 6840, sections 4.1, 4.3 and 4.4). Does not allocate, and reads the records at
+/// most twice.
 ///
-/// The records may be any of the zone's chain, in any order, with repeats. Those whose owner or
-/// next name is not at or below the apex are passed over. Where several match a name, the first
-/// counts, and where none does, the first that covers it. Where a record proves that the name does
-/// not exist, the wildcard below its closest encloser is looked for in the same way; with no record
-/// of it the answer is `NoCloserName`. Where none matches or covers the name, it is `NotProven`; so
-/// it is where the record that matches is at a zone cut and lists SOA, since that is the record of
-/// the child's apex, in the child zone (RFC 6840, section 4.4).
+/// The records may be any of the zone's chain, in any order, with repeats. A record is ignored if
+/// its owner or next name is not at or below the apex. The first record that matches a name counts
+/// or, if none matches, the first that covers it.
 ///
-/// The chain is one that leaves out the names below an owner of a DNAME record, or there are none:
-/// such names are no names of the zone (RFC 6672, section 2.4). The records' signatures are not
-/// looked at.
+/// If a record proves that the name does not exist, the wildcard below its closest encloser is
+/// looked up in the same way; without a record of it the answer is `NoCloserName`. If no record
+/// matches or covers the name, the answer is `NotProven`. It is `NotProven` too if the matching
+/// record is at a zone cut and lists SOA: such a record is from the child zone, at the child's apex
+/// (RFC 6840, section 4.4).
+///
+/// The chain must leave out the names below an owner of a DNAME record, or the zone must have none:
+/// such names are no names of the zone (RFC 6672, section 2.4). Signatures are not verified.
 pub fn judge_nsec<A: ToName, O: Octets, N: ToName, M: ToName>(
     apex: &A,
     chain: &[Record<N, Nsec<O, N>>],
@@ -134,7 +136,7 @@ pub fn judge_nsec<A: ToName, O: Octets, N: ToName, M: ToName>(
     ensures { IsJudged (links_of N.labels chain.now) (A.labels apex.now) (M.labels name.now) rtype
         result }
 {
-    // By this law what the records say is what they prove, of a type of 16 bits.
+    // By this law what the records say is what they prove, for a type of 16 bits.
     chains_are_known();
     let _number = rtype.to_int();
     match judge_name(apex, chain, name, rtype) {

@@ -21,8 +21,8 @@ use domain_nsec3::Nsec3Records;
 use domain_octets::Octets;
 use std::alloc::Global;
 
-/// What the first cover of the next closer name says, where the closest encloser has so many
-/// labels: of the cover it is told whether it has the flag of opt-out.
+/// Returns what the first cover of the next closer name says, if the closest encloser has `count`
+/// labels. `cover` says whether the cover has the opt-out flag, or is None without a cover.
 pub(crate) fn next_answer(count: usize, cover: Option<bool>) -> Answer
     ensures { result ≡ next_by count cover }
 {
@@ -33,9 +33,10 @@ pub(crate) fn next_answer(count: usize, cover: Option<bool>) -> Answer
     }
 }
 
-/// What that and the record of the closest encloser, which has so many labels, say of a name with
-/// `labels`; of one that does not exist no more than that. Of the record its types are told, and
-/// whether its name is a zone cut.
+/// Returns what the record of the closest encloser, which has `count` labels, and the cover of the
+/// next closer name say of a name with `labels` labels. No wildcard is looked up for a name that
+/// does not exist. `types` are the types of the encloser's record, and `at_cut` says whether its
+/// name is a zone cut.
 pub fn encloser_answer<O: Octets>(
     types: &RtypeBitmap<O>,
     at_cut: bool,
@@ -58,14 +59,15 @@ pub fn encloser_answer<O: Octets>(
     next_answer(count, cover)
 }
 
-/// Whether a record that covers a name, if one does, has the flag of opt-out.
+/// Returns whether a record that covers a name has the opt-out flag, or None without a record.
 pub(crate) fn opt_out_of<O: Octets, N: ToName>(cover: Option<&Nsec3Rr<O, N>>) -> Option<bool>
     ensures { result ≡ flag_of (option_map (λ k. as_hashed_link N.labels k.now) cover.entry) }
 {
     Some(cover?.data().opt_out())
 }
 
-/// What the records say of a name with so many labels, whose closest encloser they tell.
+/// Returns what the records say of a name with `labels` labels, given what they say of its closest
+/// encloser.
 pub(crate) fn found_answer<A: ToName, O: Octets, N: ToName>(
     apex: &A,
     found: Option<Nsec3Encloser<'_, O, N>>,
@@ -84,8 +86,8 @@ pub(crate) fn found_answer<A: ToName, O: Octets, N: ToName>(
     encloser_answer(types, at_cut, encloser.count, cover, labels, rtype)
 }
 
-/// What the records say of a name that does not exist, by what they tell of the wildcard below its
-/// closest encloser, which has so many labels.
+/// Returns what the records say of a name that does not exist, given what they say of the wildcard
+/// below its closest encloser, which has `count` labels.
 pub(crate) fn wildcard_told<O: Octets, N: ToName>(
     count: usize,
     rtype: Rtype,
@@ -104,8 +106,8 @@ pub(crate) fn wildcard_told<O: Octets, N: ToName>(
     }
 }
 
-/// What the records say of a name that does not exist, whose closest encloser has so many labels.
-/// Hashes the wildcard below that one, and no other name.
+/// Returns what the records say of a name that does not exist, whose closest encloser has `count`
+/// labels. Hashes the wildcard below the closest encloser, and no other name.
 fn read_wildcard<A: ToName, O: Octets, N: ToName, M: ToName, H: Nsec3Hasher>(
     alloc: Global,
     apex: &A,
@@ -130,33 +132,36 @@ fn read_wildcard<A: ToName, O: Octets, N: ToName, M: ToName, H: Nsec3Hasher>(
     Ok(wildcard_told(count, rtype, found))
 }
 
-/// What records of an NSEC3 chain answer to a question about a name and a type (RFC 5155, section
-/// 8; RFC 6840, sections 4.1, 4.3 and 4.4).
+/// Returns what records of an NSEC3 chain answer to a question about a name and a type (RFC 5155,
+/// section 8; RFC 6840, sections 4.1, 4.3 and 4.4).
 ///
-/// The records may be any of the zone's chain, in any order, with repeats. Those with another
-/// algorithm, iterations or salt than the NSEC3PARAM record, or whose owner is not one label in
-/// Base 32 hex before the apex, are passed over; classes, TTLs and flags are not compared.
+/// The records may be any of the zone's chain, in any order, with repeats. A record is ignored if
+/// it differs from the NSEC3PARAM record in algorithm, iterations or salt. It is also ignored if
+/// its owner is not one label in Base 32 hex before the apex. Classes, TTLs and flags are not
+/// compared.
 ///
-/// Where the NSEC3PARAM record has more iterations than the limit, nothing is hashed, and the
-/// answer is `TooManyIterations` (RFC 9276, section 3.2). Else names are hashed from the name
-/// towards the apex, up to the first that a record matches, which is the closest encloser. Where a
-/// record covers the name one label longer, without the flag of opt-out, the wildcard below the
-/// closest encloser is hashed too; with no record of it the answer is `NoCloserName`. Of several
-/// that match or cover a name the first counts. With no match, or no such cover where one is
-/// needed, the answer is `NotProven`; so it is where the record of the name is at a zone cut and
-/// lists SOA, as that of a child's apex does (RFC 5155, section 8.9). No name is hashed twice but
-/// the wildcard, where that is the next closer name itself; the records are gone over once for
-/// each. Takes no memory but for the hasher's answers, one at a time.
+/// If the NSEC3PARAM record has more iterations than the limit, nothing is hashed, and the answer
+/// is `TooManyIterations` (RFC 9276, section 3.2). Otherwise names are hashed from the name towards
+/// the apex, up to the first that a record matches, which is the closest encloser. If a record
+/// without the opt-out flag covers the name one label longer, the wildcard below the closest
+/// encloser is hashed too; without a record of it the answer is `NoCloserName`. The first record
+/// that matches or covers a name counts.
 ///
-/// The chain is one that leaves out the names below an owner of a DNAME record, or there are none:
-/// such names are no names of the zone (RFC 6672, section 2.4). The records' signatures are not
-/// looked at. An answer that was expanded from a wildcard brings no record of the closest encloser:
-/// `judge_nsec3_expansion` judges that.
+/// If nothing is matched, or a cover is needed and missing, the answer is `NotProven`. It is
+/// `NotProven` too if the record of the name is at a zone cut and lists SOA, as that of a child's
+/// apex does (RFC 5155, section 8.9). No name is hashed twice, except the wildcard if it is the
+/// next closer name itself. For each hash the records are read once. Allocates nothing but the
+/// hasher's digests, one at a time.
+///
+/// The chain must leave out the names below an owner of a DNAME record, or the zone must have none:
+/// such names are no names of the zone (RFC 6672, section 2.4). Signatures are not verified. An
+/// answer that was expanded from a wildcard comes with no record of the closest encloser: use
+/// `judge_nsec3_expansion` for that.
 ///
 /// # Errors
 ///
-/// `Hasher` with the number of the first refusal among the hashes that are asked for, and
-/// `OutOfMemory` where the hasher has none.
+/// `Hasher` with the number of the first error among the hashes that are computed, and
+/// `OutOfMemory` if the hasher has no memory.
 pub fn judge_nsec3<A: ToName, O: Octets, N: ToName, M: ToName, H: Nsec3Hasher>(
     alloc: Global,
     apex: &A,
@@ -180,7 +185,7 @@ pub fn judge_nsec3<A: ToName, O: Octets, N: ToName, M: ToName, H: Nsec3Hasher>(
     if records.nsec3param.data().iterations() > limit {
         return Ok(Answer::TooManyIterations);
     }
-    // By this law what the records say is what they prove, of a type of 16 bits.
+    // By this law what the records say is what they prove, for a type of 16 bits.
     hashed_chains_are_known();
     let _number = rtype.to_int();
     let found = find_nsec3_encloser(alloc, apex, records, name, hasher)?;

@@ -1,4 +1,4 @@
-//! What the types that a record lists say of the name that owns them.
+//! What the types that a record lists say of the name that owns it.
 ghost use Rattle.std.specs.Prelude.{◌≡◌};
 ghost use Rattle.domain_answer.specs.ZoneAnswer.{types_answer, wildcard_types_answer};
 
@@ -7,9 +7,9 @@ use domain_base::Rtype;
 use domain_bitmap::RtypeBitmap;
 use domain_octets::Octets;
 
-/// What types say of a question for a type at the name that owns them, which has so many labels,
-/// and is a zone cut or not: nothing, where they are those of the apex of a child zone (RFC 6840,
-/// section 4.4).
+/// Returns what types answer to a question for `rtype` at the name that owns them, which has
+/// `count` labels. `at_cut` says whether it is a zone cut. The answer is `NotProven` if the types
+/// are those of a child zone's apex (RFC 6840, section 4.4).
 pub fn types_answer<O: Octets>(
     types: &RtypeBitmap<O>,
     at_cut: bool,
@@ -36,8 +36,9 @@ pub fn types_answer<O: Octets>(
     Answer::NoData
 }
 
-/// What the types of a wildcard, which is a zone cut or not, say of a name whose closest encloser,
-/// right above the wildcard, has so many labels (RFC 4592, section 3.3).
+/// Returns what the types of a wildcard say of a name whose closest encloser, right above the
+/// wildcard, has `count` labels (RFC 4592, section 3.3). `at_cut` says whether the wildcard is a
+/// zone cut.
 pub fn wildcard_types_answer<O: Octets>(
     types: &RtypeBitmap<O>,
     at_cut: bool,

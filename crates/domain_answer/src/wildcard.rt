@@ -5,8 +5,8 @@ ghost use Rattle.domain_answer.specs.ZoneAnswer.{wildcard_below};
 
 use domain_base::{MAX_NAME, ParsedName, ToName};
 
-/// Writes the wire form of the wildcard below a name, which is given by its own, to the front of a
-/// buffer.
+/// Writes the wire form of the wildcard below a name to the front of a buffer. `above` is the
+/// name's wire form.
 fn write_wildcard<'b>(buffer: &'b mut [u8], above: &[u8]) -> &'b [u8]
     requires { 2 + length above.now ≤ length buffer.old }
     ensures { result.now ≡ 1 ∷ 42 ∷ above.now }
@@ -18,8 +18,8 @@ fn write_wildcard<'b>(buffer: &'b mut [u8], above: &[u8]) -> &'b [u8]
     wildcard
 }
 
-/// The wildcard right below the last labels of a name, so many (RFC 4592, section 2.1.1). Its
-/// octets lie at the front of the buffer.
+/// Returns the wildcard right below the last `count` labels of a name (RFC 4592, section 2.1.1).
+/// Its octets are at the front of the buffer.
 pub(crate) fn wildcard_below<'b, M: ToName>(
     buffer: &'b mut [u8],
     name: &M,
@@ -35,8 +35,8 @@ pub(crate) fn wildcard_below<'b, M: ToName>(
     ParsedName::over(write_wildcard(buffer, above.as_wire()))
 }
 
-/// The wildcard right below the last labels of a name, so many (RFC 4592, section 2.1.1), whose
-/// octets lie at the front of the buffer. None where the name has no more labels than these.
+/// Returns the wildcard right below the last `count` labels of a name (RFC 4592, section 2.1.1), or
+/// None if the name has no more labels than these. Its octets are at the front of the buffer.
 pub fn wildcard_of<'b, M: ToName>(
     buffer: &'b mut [u8; MAX_NAME],
     name: &M,

@@ -1,4 +1,4 @@
--- What a zone with an NSEC3 chain says of a name and a type, and what a few of its records prove.
+-- What a zone with an NSEC3 chain says of a name and a type, and what some of its records prove.
 use Rattle.std.specs.{List.{list_all, find, list_any}, Option.option_map_or, Prelude.{Bool, false, ◌&&◌, ◌==◌, [], ◌∷◌, length, bytes_eq}}
 use Rattle.std.specs.Prelude.{Option, Some, None, if◌then◌else◌, List, ℕ, true, not, ◌||◌, ◌+◌, ◌≡◌, All, Ok, Err, ◌<◌}
 use Rattle.domain_codecs.specs.Codec.{is_digit, is_base32_length, base32_octets, base32_digits, IsBase32}
@@ -15,33 +15,33 @@ use Rattle.domain_chain_rdata.specs.Rdata.{is_opt_out}
 use Rattle.domain_checker.specs.{Verdict.{IsHashedAlike, IsPairedIn, closest_encloser, types_verdict}, declared.verdict.Verdict.Verdict}
 use Rattle.domain_checker.specs.declared.verdict.Verdict.TheVariants.{OutsideZone, BelowDelegation, EmptyName, OptOut, NoName, NotProven}
 
--- ---- What NSEC3 records say of hashes, whoever sent them (RFC 5155, section 3); a is the apex.
+-- ---- What NSEC3 records say of hashes, from whatever source (RFC 5155, section 3); a is the apex.
 
 -- the same algorithm, iterations and salt
 abbrev pub same_parameters : Parameters → Parameters → Bool
 same_parameters p q =
     (p.algorithm == q.algorithm) && (p.iterations == q.iterations) && bytes_eq p.salt q.salt
 
--- a label is a text in Base 32 hex, in either case (RFC 4648, section 7)
+-- the label is Base 32 hex, in either case (RFC 4648, section 7)
 abbrev pub is_spelling : Label → Bool
 is_spelling label = list_all (is_digit Base32Hex) label && is_base32_length (length label)
 
--- the octets that such digits stand for
+-- the octets that such digits encode
 abbrev pub read_label : Label → Octets
 read_label label = base32_octets 1 0 (base32_digits label)
 
--- the hash that an owner spells by its one label before the apex
+-- the hash that an owner encodes in its one label before the apex
 abbrev pub hash_in : Name → Name → Option Octets
 hash_in a [] = None
 hash_in a (label ∷ above) =
     if same_name above a && is_spelling label then Some (read_label label) else None
 
--- the hash at which a record stands; None where it has other parameters, or an owner of another
--- form, and is passed over
+-- the hash of a record's owner; None if the record has other parameters, or an owner of another
+-- form: then it is ignored
 abbrev pub owner_hash : Name → Parameters → HashedLink → Option Octets
 owner_hash a p k = if same_parameters k.parameters p then hash_in a k.owner else None
 
--- a record that is not passed over matches the hash v; covers it
+-- a record that is not ignored matches the hash v; covers it
 abbrev pub is_hash_match : Name → Parameters → Octets → HashedLink → Bool
 is_hash_match a p v k = option_map_or (λ h. matches octets_before h v) (owner_hash a p k) false
 
@@ -51,8 +51,8 @@ is_hash_cover a p v k =
 
 -- ---- How NSEC3 records and their parameters are seen.
 
--- what is read of NSEC3 records: what they link, the apex of their zone, the parameters that they
--- are to have, and what the hasher answers by these
+-- NSEC3 records as they are read: what they link, the apex of their zone, the parameters that they
+-- must have, and the hasher's answers with these parameters
 pub record HashedRecords : Type 0 where
   pub links : List HashedLink
   pub apex : Name
@@ -76,40 +76,41 @@ parameters records = parameters_of records.nsec3param.«data»
 abbrev pub links : {N O : Type 0} → (N → Name) → Nsec3Records N O → List HashedLink
 links labels records = hashed_links_of labels records.nsec3s.items
 
--- a hasher with the parameters of these records
+-- the hashes of a hasher with the parameters of these records
 abbrev pub hash_with : {N O : Type 0} → HasherAnswer → Nsec3Records N O → Hash
 hash_with answer records = hash_by answer (parameters records)
 
--- links that are read by a hasher with these parameters
+-- links as they are read with a hasher and these parameters
 abbrev pub links_with : Name → Parameters → HasherAnswer → List HashedLink → HashedRecords
 links_with a p answer listed =
     record { links = listed; apex = a; parameters = p; hash = hash_by answer p }
 
--- records that are handed in, by how names are read and what the hasher answers
+-- records that are passed to a function, as they are read with labels and a hasher
 abbrev pub hashed_records : {N O : Type 0} → Name → (N → Name) → HasherAnswer → Nsec3Records N O
     → HashedRecords
 hashed_records a labels answer records =
     links_with a (parameters records) answer (links labels records)
 
--- records of a zone's chain
+-- records of a zone's chain, with the hashes and parameters of the chain
 abbrev pub chain_records : Name → ChainConfig → List HashedLink → HashedRecords
 chain_records a config listed =
     record { links = listed; apex = a; parameters = config.parameters; hash = config.hash }
 
--- ---- What a zone with an NSEC3 chain says of a name and a type, and what a list of records proves of
--- it (RFC 5155, section 8); a is the apex, x the name and t the type.
+-- ---- What a zone with an NSEC3 chain says of a name and a type, and what a list of records proves
+-- of it (RFC 5155, section 8); a is the apex, x the name and t the type.
 
 -- x is strictly below a zone cut that the chain holds
 abbrev pub is_below_chain_cut : List ZoneRecord → Name → ChainConfig → Name → Bool
 is_below_chain_cut L a config x =
     list_any (λ n. is_zone_cut L a n && is_strictly_below x n) (original_owners L a config)
 
--- of a name whose next closer name is covered; the number counts the labels of its closest encloser
+-- the verdict on a name whose next closer name is covered; the number counts the labels of its
+-- closest encloser
 abbrev pub missing_verdict : Bool → ℕ → Verdict
 missing_verdict opt_out count = if opt_out then OptOut count else NoName count
 
--- the first that holds: x is outside of the zone, strictly below a zone cut of the chain, an
--- original owner name, one that exists over those, or none
+-- the first that holds: x is outside the zone, is strictly below a zone cut of the chain, is an
+-- original owner name, is an empty non-terminal above such names, or does not exist
 abbrev pub hashed_zone_verdict : List ZoneRecord → Name → ChainConfig → Name → ℕ → Verdict
 hashed_zone_verdict L a config x t =
     if not (is_at_or_below x a) then OutsideZone
@@ -128,7 +129,7 @@ abbrev pub is_ok_with : (Octets → Bool) → HashAnswer → Bool
 is_ok_with test (Ok v) = test v
 is_ok_with test (Err n) = false
 
--- some record of the list matches the hash of the name n; covers it
+-- a record of the list matches the hash of the name n; covers it
 abbrev pub is_matched : HashedRecords → Name → Bool
 is_matched R n =
     is_ok_with (λ v. list_any (is_hash_match R.apex R.parameters v) R.links) (hash_name R.hash n)
@@ -152,9 +153,9 @@ hashed_proved_verdict L a config listed x t =
     if not (is_at_or_below x a) || proves L a config listed x
     then hashed_zone_verdict L a config x t else NotProven
 
--- the verdict is what these records, in any order, with repeats, prove of any zone of whose chain
--- they are, but for TTLs, classes and the case of letters, where no other name of the chain has the
--- hash of x or of an ancestor at or below the apex
+-- the verdict is what these records, in any order, with repeats, prove about any zone whose chain
+-- they are from; TTLs, classes and the case of letters may differ, and no other name of the chain
+-- has the hash of x or of an ancestor at or below the apex
 abbrev pub IsHashedProved : HashedRecords → Name → ℕ → Verdict → Type 0
 IsHashedProved R x t verdict =
     (L : List ZoneRecord) (config : ChainConfig) (links : List HashedLink)
@@ -163,9 +164,9 @@ IsHashedProved R x t verdict =
     → All (IsPairedIn IsHashedAlike links) R.links
     → verdict ≡ hashed_proved_verdict L R.apex config R.links x t
 
--- ---- lists from anywhere
+-- ---- any list of records
 
--- no name from x up to d, d left out, is refused by the hasher or matched
+-- for each name from x up to d, d not included, the hasher has a hash, and no record matches it
 abbrev pub IsFirst : HashedRecords → Name → Name → Type 0
 IsFirst R x d =
     (y : Name) → is_at_or_below x y ≡ true → is_strictly_below y d ≡ true
@@ -186,15 +187,15 @@ is_told_cut R d =
     (hash_name R.hash d)
 
 -- a record matches x or an ancestor at or below the apex and, unless the first such name is x or is
--- told to be a zone cut, one covers the name one label longer
+-- a zone cut by its record, one covers the name one label longer
 pub record HasHashedProof (R : HashedRecords) (x : Name) : Type 0 where
   pub longest : Name
   pub first : IsFirstMatched R x longest
   pub closes : (same_name longest x || is_told_cut R longest
       || is_covered R (next_closer x longest)) ≡ true
 
--- the hasher refuses x or an ancestor at or below the apex, and no name before it is refused or
--- matched
+-- the hasher fails for x or an ancestor at or below the apex, and for each name before it has a
+-- hash that no record matches
 pub record IsFirstRefusal (R : HashedRecords) (x : Name) (reason : ℕ) : Type 0 where
   pub name : Name
   pub above : is_at_or_below x name ≡ true
@@ -202,10 +203,9 @@ pub record IsFirstRefusal (R : HashedRecords) (x : Name) (reason : ℕ) : Type 0
   pub refused : hash_name R.hash name ≡ Err reason
   pub first : IsFirst R x name
 
--- ---- What is known of each NSEC3 chain: the laws of chains, of their names and of Base 32, put
--- together.
+-- ---- The laws of NSEC3 chains, of their names and of Base 32, for each chain.
 
--- what is known of one chain
+-- the laws of one chain
 pub record ChainFacts (L : List ZoneRecord) (a : Name) (config : ChainConfig)
     (links : List HashedLink) : Type 0 where
   pub chain : IsHashedChain L a config links
@@ -223,7 +223,7 @@ pub record ChainFacts (L : List ZoneRecord) (a : Name) (config : ChainConfig)
   pub tells_apart : (u v : Octets) → AreOctets u → AreOctets v
       → base32_lower u ≡ base32_lower v → u ≡ v
 
--- and so of every chain
+-- the laws of every chain
 abbrev pub ChainsAreKnown : Type 0
 ChainsAreKnown =
     (L : List ZoneRecord) (a : Name) (config : ChainConfig) (links : List HashedLink)

@@ -1,4 +1,4 @@
--- What NSEC records say by themselves (RFC 4035, section 5.4; RFC 6840, section 4.1).
+-- What NSEC records alone say (RFC 4035, section 5.4; RFC 6840, section 4.1).
 use Rattle.std.specs.{Prelude.{◌≡◌, ◌≢◌, ℕ, Bool, true, not, ◌&&◌, List, Option, Some, None, length, if◌then◌else◌}, List.find, Option.option_map}
 use Rattle.domain_bitmap.specs.Blocks.{contains_type}
 use Rattle.domain_names.specs.Name.{is_at_or_below, is_strictly_below, same_name, before, Name}
@@ -16,56 +16,57 @@ is_at_cut a k = not (same_name k.owner a) && contains_type k.bits ns
 abbrev pub match_verdict : Name → Link → ℕ → Verdict
 match_verdict a k t = types_verdict (is_at_cut a k) (contains_type k.bits) t
 
--- what a record says of a name that it covers: below its owner, a zone cut, all belongs to the
--- child; a next name below x makes x an empty non-terminal; else there is no x, and its closest
--- encloser is the longer of the names that it shares with the two
+-- what a record says of a name that it covers: below an owner that is a zone cut, the child zone
+-- answers; if the next name is below x, then x is an empty non-terminal; otherwise x does not
+-- exist, and its closest encloser is the longer of the names that x shares with the owner and with
+-- the next name
 abbrev pub cover_verdict : Name → Link → Name → Verdict
 cover_verdict a k x =
     if is_at_or_below x k.owner && is_at_cut a k then BelowDelegation else
     (if is_strictly_below k.next x then EmptyName else
     NoName (length (longer (shared x k.owner) (shared x k.next))))
 
--- not passed over, and its owner is x
+-- the record is not ignored, and its owner is x
 abbrev pub is_match : Name → Name → Link → Bool
 is_match a x k = matches before k.owner x && is_inside a k
 
--- not passed over, and covers x
+-- the record is not ignored, and covers x
 abbrev pub is_cover : Name → Name → Link → Bool
 is_cover a x k = covers before k.owner k.next x && is_inside a k
 
--- a match counts before a cover
+-- a match takes precedence over a cover
 abbrev pub verdict_of_both : Name → Name → ℕ → Option Link → Option Link → Verdict
 verdict_of_both a x t (Some k) covering = match_verdict a k t
 verdict_of_both a x t None (Some k) = cover_verdict a k x
 verdict_of_both a x t None None = NotProven
 
--- what a list of records says of a name at or below the apex: of matches and of covers the first
--- counts
+-- what a list of records says of a name at or below the apex: the first match counts, or else the
+-- first cover
 abbrev pub list_verdict : Name → List Link → Name → ℕ → Verdict
 list_verdict a listed x t =
     verdict_of_both a x t (find (is_match a x) listed) (find (is_cover a x) listed)
 
--- what it says of any name
+-- what a list of records says of any name
 abbrev pub reading : Name → List Link → Name → ℕ → Verdict
 reading a listed x t = if is_at_or_below x a then list_verdict a listed x t else OutsideZone
 
--- what is promised of the verdict on a list of records
+-- the contract of the verdict on a list of records
 pub record IsChecked (listed : List Link) (a x : Name) (t : ℕ) (verdict : Verdict) : Type 0 where
-  -- for records of the chain of any zone, the verdict of that zone where a record matches or covers
+  -- for records of the chain of any zone: the verdict of that zone if a record matches or covers
   -- the name, and else `NotProven`
   pub zone : IsProved listed a x t verdict
-  -- for any records at all, a name of the zone has a verdict only where a record that is not passed
-  -- over matches or covers it
+  -- for any records at all: a name of the zone has a verdict only if a record that is not ignored
+  -- matches or covers it
   pub proof : is_at_or_below x a ≡ true → verdict ≢ NotProven → HasProof listed a x
   -- the verdict is what the first match says, or else the first cover
   pub exact : verdict ≡ reading a listed x t
-  -- and the number of a closest encloser's labels is none that the name lacks
+  -- and a closest encloser has no more labels than the name
   pub within : IsWithin (length x) verdict
 
--- ---- What has been found out of a name where NSEC records are handed in one after another.
+-- ---- The state of a check of NSEC records that are passed one by one.
 
--- these records have been handed in for the apex a, the name x and the type t: what the first match
--- says is known and, with none, what the first cover says
+-- the check has read these records for the apex a, the name x and the type t: it knows what the
+-- first match says or, if there is none, what the first cover says
 pub record HasRead (a x : Name) (t : ℕ) (listed : List Link) (check : NsecCheck) : Type 0 where
   pub apex : check.apex ≡ a
   pub name : check.name ≡ x

@@ -1,5 +1,5 @@
--- What a zone with an NSEC chain says of a name and a type, what is known of each chain, and records
--- that are alike.
+-- What a zone with an NSEC chain says of a name and a type, the laws that hold of each chain, and
+-- records that are alike.
 use Rattle.std.specs.{Prelude.{◌≡◌, ◌<◌, ℕ, Bool, true, List, [], ◌∷◌, false, not, ◌&&◌, ◌||◌, ◌==◌, ◌≤◌, All, length, if◌then◌else◌}, List.Contains}
 use Rattle.std.specs.List.{list_any}
 use Rattle.domain_names.specs.Name.{same_name, is_at_or_below, Name, before}
@@ -12,9 +12,9 @@ use Rattle.domain_base.specs.Types.{ds}
 use Rattle.domain_checker.specs.declared.verdict.Verdict.{Verdict, TheVariants.{OutsideZone, BelowDelegation, Has, NoType, EmptyName, OptOut, NoName}}
 use Rattle.domain_checker.specs.declared.verdict.Verdict.TheVariants.{NotProven}
 
--- ---- What is known of each NSEC chain: the laws of chains, of their types and of bitmaps, put together.
+-- ---- The laws of NSEC chains, of their types and of bitmaps, for each chain.
 
--- what is known of one chain
+-- the laws of one chain
 pub record NsecFacts (L : List ZoneRecord) (a : Name) (config : GenerateNsecConfig)
     (links : List Link) : Type 0 where
   pub chain : IsChain L a config links
@@ -25,22 +25,22 @@ pub record NsecFacts (L : List ZoneRecord) (a : Name) (config : GenerateNsecConf
   pub contains : (types : ℕ → Bool) (t : ℕ) → t < 65536
       → contains_type (bitmap_octets types) t ≡ types t
 
--- and so of every chain
+-- the laws of every chain
 abbrev pub NsecChainsAreKnown : Type 0
 NsecChainsAreKnown =
     (L : List ZoneRecord) (a : Name) (config : GenerateNsecConfig) (links : List Link)
     → OwnersNeverDescend L → IsChain L a config links → NsecFacts L a config links
 
--- ---- Records as they come: a cache lowers their TTLs, and servers and signers write names in either
--- case. What the records prove does not depend on that.
+-- ---- Records as they are received: a cache lowers their TTLs, and servers and signers write names
+-- in either case. What the records prove does not depend on that.
 
--- NSEC records: the same owner and next name but for the case of letters, and the same types
+-- NSEC records with the same types, and the same owner and next name except for the case of letters
 pub record IsAlike (k l : Link) : Type 0 where
   pub owner : same_name k.owner l.owner ≡ true
   pub next : same_name k.next l.next ≡ true
   pub bits : k.bits ≡ l.bits
 
--- NSEC3 records: the same owner but for the case of letters, and the same data
+-- NSEC3 records with the same data, and the same owner except for the case of letters
 pub record IsHashedAlike (k l : HashedLink) : Type 0 where
   pub owner : same_name k.owner l.owner ≡ true
   pub next : k.next ≡ l.next
@@ -48,21 +48,21 @@ pub record IsHashedAlike (k l : HashedLink) : Type 0 where
   pub flags : k.flags ≡ l.flags
   pub bits : k.bits ≡ l.bits
 
--- lists of which each record stands so to that at the same place of the other
+-- lists of the same length whose records at each place are related by R
 abbrev pub ArePaired : {X : Type 0} → (X → X → Type 0) → List X → List X → Type 0
 ArePaired R [] [] = Unit {0}
 ArePaired R [] (l ∷ ls) = ⊥
 ArePaired R (k ∷ ks) [] = ⊥
 ArePaired R (k ∷ ks) (l ∷ ls) = R k l × ArePaired R ks ls
 
--- the record stands so to one of these
+-- a record of the list is related to k by R
 pub record IsPairedIn {X : Type 0} (R : X → X → Type 0) (links : List X) (k : X) : Type 0 where
   pub link : X
   pub there : Contains links link
   pub alike : R k link
 
--- ---- What a zone with an NSEC chain says of a name and a type, and what a list of records of the chain
--- proves of that (RFC 4035, section 5.4). The chain is one that keeps what stands below a DNAME.
+-- ---- What a zone with an NSEC chain says of a name and a type, and what a list of records of the
+-- chain proves of that (RFC 4035, section 5.4). The chain keeps the names below a DNAME.
 
 -- the first of x and its ancestors that exists; `laws::closest_enclosers` says that it is the
 -- closest encloser
@@ -71,15 +71,15 @@ closest_encloser names a [] = []
 closest_encloser names a (l ∷ x) =
     if exists_over names a (l ∷ x) then l ∷ x else closest_encloser names a x
 
--- of a name that owns records, by the types that its record lists, of which a zone tells DS alone
--- at a zone cut
+-- the verdict on a name that owns records, by the types that its record lists; at a zone cut the
+-- zone answers only for DS and the listed types
 abbrev pub types_verdict : Bool → (ℕ → Bool) → ℕ → Verdict
 types_verdict at_cut lists t =
     if lists t then Has else
     (if at_cut && not (t == ds) then BelowDelegation else NoType)
 
--- the first that holds: x isn't at or below the apex, is strictly below a zone cut, is an owner of
--- the chain, an empty non-terminal, or none of these
+-- the first that holds: x is not at or below the apex, is strictly below a zone cut, is an owner of
+-- the chain, is an empty non-terminal, or is none of these
 abbrev pub zone_verdict : List ZoneRecord → Name → Bool → Name → ℕ → Verdict
 zone_verdict L a assume x t =
     if not (is_at_or_below x a) then OutsideZone else
@@ -93,15 +93,15 @@ zone_verdict L a assume x t =
 abbrev pub has_match_or_cover : List Link → Name → Bool
 has_match_or_cover listed x = list_any (λ k. matches_or_covers before k.owner k.next x) listed
 
--- what a list of records of the chain proves: the verdict of the zone where x isn't at or below the
--- apex, or one of them matches or covers it
+-- what a list of records of the chain proves: the verdict of the zone if x is not at or below the
+-- apex or if a record matches or covers it
 abbrev pub proved_verdict : List ZoneRecord → Name → Bool → List Link → Name → ℕ → Verdict
 proved_verdict L a assume listed x t =
     if not (is_at_or_below x a) || has_match_or_cover listed x
     then zone_verdict L a assume x t else NotProven
 
--- the verdict is what is proved of any zone of whose chain these are records, but for TTLs, classes
--- and the case of letters, in any order, with repeats
+-- the verdict is what the records prove about any zone whose chain they are from, except for TTLs,
+-- classes and the case of letters, in any order, with repeats
 abbrev pub IsProved : List Link → Name → Name → ℕ → Verdict → Type 0
 IsProved listed a x t verdict =
     (L : List ZoneRecord) (config : GenerateNsecConfig) (links : List Link)
@@ -109,16 +109,16 @@ IsProved listed a x t verdict =
     → All (IsPairedIn IsAlike links) listed
     → verdict ≡ proved_verdict L a config.assume_dnskeys_will_be_added listed x t
 
--- the owner and the next name are at or below the apex; other records are passed over
+-- the owner and the next name are at or below the apex; other records are ignored
 abbrev pub is_inside : Name → Link → Bool
 is_inside a k = is_at_or_below k.owner a && is_at_or_below k.next a
 
--- a record that is not passed over matches or covers x
+-- a record that is not ignored matches or covers x
 abbrev pub HasProof : List Link → Name → Name → Type 0
 HasProof listed a x =
     list_any (λ k. is_inside a k && matches_or_covers before k.owner k.next x) listed ≡ true
 
--- a closest encloser has n labels at most
+-- a closest encloser has at most n labels
 abbrev pub IsWithin : ℕ → Verdict → Type 0
 IsWithin n (OptOut count) = count ≤ n
 IsWithin n (NoName count) = count ≤ n

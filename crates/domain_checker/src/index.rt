@@ -1,4 +1,4 @@
-//! NSEC3 records that are read once, to look up the hashes of many names.
+//! An index of NSEC3 records that are read once, to look up the hashes of many names.
 ghost use Rattle.std.specs.{Option.option_map, Prelude.{◌≡◌, ◌⊎◌, ◌<◌, ℕ, Ok, Some, None, Err, IfErr, IfOk, IfSome}};
 ghost use Rattle.std.specs.Prelude.{◌∷◌, [], IsErrOf, IsPermutation, IsTrue, length, map, false};
 ghost use Rattle.domain_names.specs.Name.{is_at_or_below, lowered, wire_of};
@@ -27,10 +27,10 @@ use domain_octets::{Octets, OutOfMemory, SmallOctets};
 use std::alloc::Global;
 use std::marker::Model;
 
-/// Up to this many records are compared one after another, which takes no longer than a search.
+/// Up to this many records are compared one by one, which takes no longer than a search.
 const FEW: usize = 8;
 
-/// An NSEC3 record that is not passed over, and the hash that its owner spells.
+/// An NSEC3 record that is not ignored, and the hash that its owner encodes.
 #[derive(Drop)]
 pub(crate) struct Placed<'a, O: Octets, N: ToName> {
     hash: SmallOctets,
@@ -38,7 +38,7 @@ pub(crate) struct Placed<'a, O: Octets, N: ToName> {
 }
 
 impl<'a, O: Octets, N: ToName> Placed<'a, O, N> {
-    /// Whether the record matches the hash.
+    /// Returns whether the record matches the hash.
     #[tactic(auto, using(crate::proofs::HashedVerdictLemmas::tied_is))]
     fn is_match(&self, hash: &[u8]) -> bool
         ensures { result ≡ is_placed_match hash.now (placed_of N.labels self.now) }
@@ -46,7 +46,7 @@ impl<'a, O: Octets, N: ToName> Placed<'a, O, N> {
         self.hash.as_slice().cmp(hash).is_eq()
     }
 
-    /// Whether the record covers the hash.
+    /// Returns whether the record covers the hash.
     fn is_cover(&self, hash: &[u8]) -> bool
         ensures { result ≡ is_placed_cover hash.now (placed_of N.labels self.now) }
     {
@@ -58,7 +58,7 @@ impl<'a, O: Octets, N: ToName> Placed<'a, O, N> {
     }
 }
 
-/// The records that are not passed over, in their order, each with its hash: each owner is decoded
+/// Returns the records that are not ignored, in their order, each with its hash. Decodes each owner
 /// once.
 fn placed_of<'a, O: Octets, N: ToName>(
     alloc: Global,
@@ -82,14 +82,15 @@ fn placed_of<'a, O: Octets, N: ToName>(
     Ok(placed)
 }
 
-/// Puts records in the order of their hashes.
+/// Sorts records by their hashes.
 fn sort_by_hash<'a, O: Octets, N: ToName>(placed: &mut Vec<Placed<'a, O, N>>)
     ensures { IsPermutation placed.old.items placed.new.items }
 {
     placed.sort_unstable_by(|a, b| a.hash.as_slice().cmp(b.hash.as_slice()));
 }
 
-/// Whether a record's next hash is after its own, and not after the hash of the record behind it.
+/// Returns whether a record's next hash is after its own, and not after the hash of the record that
+/// follows.
 fn ends_before<O: Octets, N: ToName>(placed: &Placed<'_, O, N>, after: &Placed<'_, O, N>) -> bool
     ensures { result ≡ ends_before (placed_of N.labels placed.now) (placed_of N.labels after.now) }
 {
@@ -98,7 +99,7 @@ fn ends_before<O: Octets, N: ToName>(placed: &Placed<'_, O, N>, after: &Placed<'
     placed.hash.as_slice().cmp(next).is_lt() & !after.cmp(next).is_lt()
 }
 
-/// Whether the last record covers nothing that the first or one between the two may cover.
+/// Returns whether the last record is not before the first, and covers no hash between the two.
 fn ends_ring<O: Octets, N: ToName>(last: &Placed<'_, O, N>, first: &Placed<'_, O, N>) -> bool
     ensures { result ≡ ends_ring (placed_of N.labels last.now) (placed_of N.labels first.now) }
 {
@@ -107,7 +108,8 @@ fn ends_ring<O: Octets, N: ToName>(last: &Placed<'_, O, N>, first: &Placed<'_, O
     !own.cmp(first).is_lt() & (own.cmp(next).is_lt() | !first.cmp(next).is_lt())
 }
 
-/// Whether records are in the order of their hashes, and no two of them match or cover one hash.
+/// Returns true only if records are sorted by their hashes, and no two of them match or cover the
+/// same hash.
 fn are_apart<O: Octets, N: ToName>(placed: &[Placed<'_, O, N>]) -> bool
     ensures { IsTrue result → AreApart (map (placed_of N.labels) placed.now) }
 {
@@ -120,8 +122,8 @@ fn are_apart<O: Octets, N: ToName>(placed: &[Placed<'_, O, N>]) -> bool
     placed.is_sorted_by(|a, b| ends_before(a, b))
 }
 
-/// The records that are not passed over, and whether they are in the order of their hashes and
-/// apart; else they are in their own order. Owners of records that overlap are decoded twice.
+/// Returns the records that are not ignored, and whether they are sorted by hash and apart. If not,
+/// they are in their own order. The owners of records that overlap are decoded twice.
 fn place_all<'a, O: Octets, N: ToName>(
     alloc: Global,
     apex: &ParsedName<'a>,
@@ -142,7 +144,7 @@ fn place_all<'a, O: Octets, N: ToName>(
     Ok((placed_of(alloc, apex, records)?, false))
 }
 
-/// The first record that matches the hash or, where none does, the first that covers it. Goes over
+/// Returns the first record that matches the hash or, if none does, the first that covers it. Reads
 /// the records once.
 fn walk<'a, O: Octets, N: ToName>(placed: &[Placed<'a, O, N>], hash: &[u8]) -> Nsec3Found<'a, O, N>
     ensures { IsFoundAmong (map (placed_of N.labels) placed.now) hash.now
@@ -161,7 +163,7 @@ fn walk<'a, O: Octets, N: ToName>(placed: &[Placed<'a, O, N>], hash: &[u8]) -> N
     Nsec3Found::NoMatch(cover)
 }
 
-/// The hash of the record after a place; after the last one that of the first.
+/// Returns the hash of the record after `at`, or that of the first record if `at` is the last.
 fn hash_after<'s, O: Octets, N: ToName>(placed: &'s [Placed<'_, O, N>], at: usize) -> &'s [u8]
     requires { at < length placed.now }
     ensures { result.now ≡ hash_after (map (placed_of N.labels) placed.now) at }
@@ -172,8 +174,8 @@ fn hash_after<'s, O: Octets, N: ToName>(placed: &'s [Placed<'_, O, N>], at: usiz
     placed[0].hash.as_slice()
 }
 
-/// The one record that may match or cover the hash: that in whose gap the hash lies. A search
-/// guesses it; None where the guess is wrong.
+/// Returns the only record that may match or cover the hash: the one in whose gap the hash lies. A
+/// search guesses it; None if the guess is wrong.
 fn only_of<'s, 'a, O: Octets, N: ToName>(
     placed: &'s [Placed<'a, O, N>],
     hash: &[u8],
@@ -191,7 +193,7 @@ fn only_of<'s, 'a, O: Octets, N: ToName>(
     in_gap.then_some(one)
 }
 
-/// What one record says of a hash that no other matches or covers.
+/// Returns what one record says of a hash that no other record matches or covers.
 fn told_by<'a, O: Octets, N: ToName>(one: &Placed<'a, O, N>, hash: &[u8]) -> Nsec3Found<'a, O, N>
     ensures { IsFoundAmong (placed_of N.labels one.now ∷ []) hash.now
         (found_match N.labels result) (found_cover N.labels result) }
@@ -202,7 +204,7 @@ fn told_by<'a, O: Octets, N: ToName>(one: &Placed<'a, O, N>, hash: &[u8]) -> Nse
     Nsec3Found::NoMatch(one.is_cover(hash).then_some(one.nsec3))
 }
 
-/// What records that are apart say of a hash.
+/// Returns what records that are apart say of a hash.
 fn search<'a, O: Octets, N: ToName>(
     placed: &[Placed<'a, O, N>],
     hash: &[u8],
@@ -217,26 +219,27 @@ fn search<'a, O: Octets, N: ToName>(
     }
 }
 
-/// What the way from a name to the apex ends at.
+/// The result of searching from a name towards the apex.
 #[derive(Drop)]
 pub enum Nsec3Search<'a, O: Octets, N: ToName> {
     /// The first name that a record matches (RFC 5155, section 8.3).
     Found(Nsec3Encloser<'a, O, N>),
     /// No record matches a name up to the apex, or the name is not at or below the apex.
     Unmatched,
-    /// No record matches one of as many names as may be hashed, and the apex is not among them.
+    /// No record matches any of the names that the limit allows to hash, and the apex is not among
+    /// these.
     TooManyNames,
 }
 
-/// NSEC3 records that are read once, to look up many hashes. Contracts see the records, the apex
-/// and the parameters of the NSEC3PARAM record. It borrows all of them, and holds some 64 octets
-/// for each record that is not passed over.
+/// An index of NSEC3 records, which are read once to look up many hashes. Contracts see the
+/// records, the apex and the parameters of the NSEC3PARAM record. It borrows all of them, and holds
+/// about 64 octets for each record that is not ignored.
 #[derive(Drop)]
 pub struct Nsec3Index<'a, O: Octets, N: ToName> {
     apex: ParsedName<'a>,
     records: &'a Nsec3Records<N, O>,
     placed: Vec<Placed<'a, O, N>>,
-    /// Whether these are in the order of their hashes, and apart.
+    /// Whether these are sorted by hash, and apart.
     apart: bool,
 }
 
@@ -259,16 +262,16 @@ impl<'a, O: Octets, N: ToName> Model for Nsec3Index<'a, O, N> {
 }
 
 impl<'a, O: Octets, N: ToName> Nsec3Index<'a, O, N> {
-    /// Reads the owner of each record once (RFC 5155, section 3). Those with another algorithm,
-    /// iterations or salt than the NSEC3PARAM record, or whose owner is not one label in Base 32
-    /// hex before the apex, are passed over; classes, TTLs and flags are not compared.
+    /// Reads the owner of each record once (RFC 5155, section 3). A record is ignored if it differs
+    /// from the NSEC3PARAM record in algorithm, iterations or salt. It is also ignored if its owner
+    /// is not one label in Base 32 hex before the apex. Classes, TTLs and flags are not compared.
     ///
-    /// Records of which no two match or cover one hash, as those of a chain, are sorted, so that
-    /// each hash is found by a search. Others are compared one after another, in their order.
+    /// If no two records match or cover the same hash, as in a chain, they are sorted, and each
+    /// hash is found by a search. Otherwise they are compared one by one, in their order.
     ///
     /// # Errors
     ///
-    /// `OutOfMemory`.
+    /// `OutOfMemory` if there is no memory.
     pub fn new<A: ToName>(
         alloc: Global,
         apex: &'a A,
@@ -290,22 +293,22 @@ impl<'a, O: Octets, N: ToName> Nsec3Index<'a, O, N> {
         })
     }
 
-    /// The apex.
+    /// Returns the apex.
     pub fn apex(&self) -> &ParsedName<'a>
         ensures { result.now ≡ self.now.apex }
     {
         &self.apex
     }
 
-    /// The iterations of the NSEC3PARAM record.
+    /// Returns the iterations of the NSEC3PARAM record.
     pub fn iterations(&self) -> u16
         ensures { result ≡ self.now.parameters.iterations }
     {
         self.records.nsec3param.data().iterations()
     }
 
-    /// What the records tell of a hash: the first that matches it or, where none does, the first
-    /// that covers it.
+    /// Returns what the records say of a hash: the first that matches it or, if none does, the
+    /// first that covers it.
     pub fn find(&self, hash: &[u8]) -> Nsec3Found<'a, O, N>
         ensures { IsFound self.now.apex self.now.parameters self.now.links hash.now
             (found_match N.labels result) (found_cover N.labels result) }
@@ -317,7 +320,7 @@ impl<'a, O: Octets, N: ToName> Nsec3Index<'a, O, N> {
         }
     }
 
-    /// What the records tell of the name with this wire form in lower case.
+    /// Returns what the records say of the name with this wire form in lower case.
     fn look_up<H: Nsec3Hasher>(
         &self,
         alloc: Global,
@@ -335,12 +338,13 @@ impl<'a, O: Octets, N: ToName> Nsec3Index<'a, O, N> {
         Ok(self.find(hash.as_slice()))
     }
 
-    /// What the records tell of one name, as `find_nsec3` says it. The name is hashed, and no other
-    /// is. Takes no memory but for the hasher's answer.
+    /// Returns what the records say of one name, as `find_nsec3` does. Hashes the name, and no
+    /// other. Allocates nothing but the hasher's digest.
     ///
     /// # Errors
     ///
-    /// `Hasher` with the number of the hasher's refusal, and `OutOfMemory` where it has none.
+    /// `Hasher` with the number of the hasher's error, and `OutOfMemory` if the hasher has no
+    /// memory.
     pub fn find_name<M: ToName, H: Nsec3Hasher>(
         &self,
         alloc: Global,
@@ -359,14 +363,14 @@ impl<'a, O: Octets, N: ToName> Nsec3Index<'a, O, N> {
         Ok(self.look_up(alloc, lowered, hasher)?)
     }
 
-    /// What the records tell of the closest encloser of a name, as `find_nsec3_encloser` says it. A
-    /// name has at most 127 labels, and so many names and the root may be hashed. Takes no memory
-    /// but for the hasher's answers, one at a time.
+    /// Returns what the records say of the closest encloser of a name, as `find_nsec3_encloser`
+    /// does. A name has at most 127 labels, so at most 128 names are hashed, the root included.
+    /// Allocates nothing but the hasher's digests, one at a time.
     ///
     /// # Errors
     ///
-    /// `Hasher` with the number of the first refusal among the hashes that are asked for, and
-    /// `OutOfMemory` where the hasher has none.
+    /// `Hasher` with the number of the first error among the hashes that are computed, and
+    /// `OutOfMemory` if the hasher has no memory.
     pub fn find_encloser<M: ToName, H: Nsec3Hasher>(
         &self,
         alloc: Global,
@@ -392,16 +396,16 @@ impl<'a, O: Octets, N: ToName> Nsec3Index<'a, O, N> {
         }
     }
 
-    /// What the records tell of the closest encloser of a name, as `find_nsec3_encloser` says it,
-    /// where at most so many names are hashed. A name with more labels below its closest encloser,
-    /// or below the apex where no record matches, is one of `TooManyNames` (CVE-2023-50868): of the
-    /// names that were hashed no record matches one. Takes no memory but for the hasher's answers,
-    /// one at a time.
+    /// Returns what the records say of the closest encloser of a name, as `find_nsec3_encloser`
+    /// does, and hashes at most `names` names. Returns `TooManyNames` if that is too few to reach
+    /// the closest encloser or, if no record matches, the apex (CVE-2023-50868): no record matches
+    /// any of the names that were hashed. Allocates nothing but the hasher's digests, one at a
+    /// time.
     ///
     /// # Errors
     ///
-    /// `Hasher` with the number of the first refusal among the hashes that are asked for, and
-    /// `OutOfMemory` where the hasher has none.
+    /// `Hasher` with the number of the first error among the hashes that are computed, and
+    /// `OutOfMemory` if the hasher has no memory.
     pub fn find_encloser_within<M: ToName, H: Nsec3Hasher>(
         &self,
         alloc: Global,
@@ -414,7 +418,7 @@ impl<'a, O: Octets, N: ToName> Nsec3Index<'a, O, N> {
         ensures found { IfOk result (λ found. IsSearched (indexed_by (H.answer hasher.now) self.now)
             (M.labels name.now) names (search_of N.labels found)) }
 
-        // An error is the first refusal, or want of memory.
+        // An error is the first of the hasher, or out of memory.
         ensures refusal { (n : ℕ) → IsErrOf result (hash_error.Hasher n)
             → IsFirstRefusal (indexed_by (H.answer hasher.now) self.now) (M.labels name.now) n }
         ensures errors { IfErr result (λ e. (e ≡ hash_error.OutOfMemory)
@@ -456,13 +460,13 @@ impl<'a, O: Octets, N: ToName> Nsec3Index<'a, O, N> {
     }
 }
 
-/// What NSEC3 records that were read once prove of a name and a type, as `check_nsec3` says it.
-/// Takes no memory but for the hasher's answers, one at a time.
+/// Returns what NSEC3 records of an index prove about a name and a type, as `check_nsec3` does.
+/// Allocates nothing but the hasher's digests, one at a time.
 ///
 /// # Errors
 ///
-/// `Hasher` with the number of the first refusal among the hashes that are asked for, and
-/// `OutOfMemory` where the hasher has none.
+/// `Hasher` with the number of the first error among the hashes that are computed, and
+/// `OutOfMemory` if the hasher has no memory.
 pub fn check_nsec3_index<O: Octets, N: ToName, M: ToName, H: Nsec3Hasher>(
     alloc: Global,
     index: &Nsec3Index<'_, O, N>,

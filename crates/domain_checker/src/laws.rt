@@ -1,4 +1,4 @@
-//! What holds of verdicts, and of what records say. A caller calls the law in its body.
+//! Laws of verdicts, and of what records say. To use a law, call it in a function body.
 ghost use Rattle.std.specs.{List.Contains, Prelude.{◌≡◌, ◌≢◌, ◌<◌, ℕ, Bool, List, true, false}};
 ghost use Rattle.domain_octets.specs.Octets.{Octets};
 ghost use Rattle.domain_names.specs.Name.{is_at_or_below, Name};
@@ -19,14 +19,14 @@ use domain_codecs::laws::{base32_reads_back, base32_tells_apart};
 use domain_nsec::laws::{chains_mean_the_zone, types_ignore_case};
 use domain_nsec3::laws as nsec3_laws;
 
-/// Where the apex exists, a name at or below it has a closest encloser, which is the first of the
-/// name and its ancestors that exists.
+/// If the apex exists, a name at or below it has a closest encloser: the first of the name and its
+/// ancestors that exists.
 pub fn closest_enclosers()
     ensures { (names : List Name) (a x : Name) → exists_over names a a ≡ true
         → is_at_or_below x a ≡ true → IsClosestEncloser names a x (closest_encloser names a x) }
 {}
 
-/// What the laws of NSEC chains, of their types and of bitmaps say, put together for each chain.
+/// Joins the laws of NSEC chains, of their types and of bitmaps, for each chain.
 pub fn chains_are_known()
     ensures { NsecChainsAreKnown }
 {
@@ -35,8 +35,8 @@ pub fn chains_are_known()
     built_bitmaps_give_their_types();
 }
 
-/// What any records say by themselves is what they prove of the zone of whose chain they are, and
-/// of any records at all no verdict comes without a proof.
+/// What any records say is what they prove about each zone whose chain they are from. For any
+/// records at all, there is no verdict without a proof.
 #[tactic(auto, using(crate::proofs::MeantLemmas::reading_checked))]
 pub fn readings_are_proved()
     ensures { (listed : List Link) (a x : Name) (t : ℕ) → t < 65536
@@ -45,15 +45,16 @@ pub fn readings_are_proved()
     chains_are_known();
 }
 
-/// What NSEC records say does not depend on TTLs, classes and the case of letters; nor does what
-/// they prove of a zone (`readings_are_proved`).
+/// What NSEC records say does not depend on TTLs, classes and the case of letters. Nor does what
+/// they prove about a zone (`readings_are_proved`).
 #[tactic(auto, using(crate::proofs::MeantLemmas::reading_alike))]
 pub fn readings_ignore_case_and_ttl()
     ensures { (listed other : List Link) (a x : Name) (t : ℕ)
         → ArePaired IsAlike listed other → reading a listed x t ≡ reading a other x t }
 {}
 
-/// The same of NSEC3 records (`walks_are_proved`).
+/// What NSEC3 records say does not depend on TTLs, classes and the case of letters. Nor does what
+/// they prove about a zone (`walks_are_proved`).
 #[tactic(auto, using(crate::proofs::MeantLemmas::walked_alike))]
 pub fn walks_ignore_case_and_ttl()
     ensures { (R : HashedRecords) (other : List HashedLink) (x : Name) (t : ℕ)
@@ -76,9 +77,9 @@ pub fn whole_chains_prove_all()
     chains_are_known();
 }
 
-/// The whole NSEC3 chain of a zone proves what the zone says of every name and type, where no other
-/// name of the chain has the hash of the name or of an ancestor at or below the apex; and the zone
-/// says something of each.
+/// The whole NSEC3 chain of a zone proves what the zone says of a name and a type. For this, no
+/// other name of the chain may have the hash of the name or of an ancestor at or below the apex.
+/// The zone says something of each name and type.
 #[tactic(auto, using(crate::proofs::HashedVerdictLemmas::whole_chain_proves, crate::proofs::HashedVerdictLemmas::hashed_zone_says))]
 pub fn whole_hashed_chains_prove_all()
     ensures zone { (L : List ZoneRecord) (a : Name) (config : ChainConfig)
@@ -91,8 +92,7 @@ pub fn whole_hashed_chains_prove_all()
     hashed_chains_are_known();
 }
 
-/// What the laws of NSEC3 chains, of names, of bitmaps and of Base 32 say, put together for each
-/// chain.
+/// Joins the laws of NSEC3 chains, of names, of bitmaps and of Base 32, for each chain.
 pub fn hashed_chains_are_known()
     ensures { ChainsAreKnown }
 {
@@ -105,8 +105,8 @@ pub fn hashed_chains_are_known()
     base32_tells_apart();
 }
 
-/// What NSEC3 records say on the way from a name to the apex is what they prove of any zone of
-/// whose chain they are; and of any records at all no verdict comes without a proof.
+/// What NSEC3 records say on the way from a name to the apex is what they prove about any zone
+/// whose chain they are from. For any records at all, there is no verdict without a proof.
 pub fn walks_are_proved()
     ensures { (R : HashedRecords) (x : Name) (t : ℕ) (verdict : Verdict)
         → t < 65536 → is_at_or_below x R.apex ≡ true
@@ -116,8 +116,8 @@ pub fn walks_are_proved()
 }
 
 /// A record of a chain that matches the hash of a name says that the name exists, and lists its
-/// types; one that covers it says that there is no such name. That holds of each name whose hash no
-/// other name of the chain has.
+/// types. One that covers the hash says that the name does not exist. Both hold for each name whose
+/// hash no other name of the chain has.
 pub fn hashes_tell_of_names()
     ensures matches { (L : List ZoneRecord) (a : Name) (config : ChainConfig)
         (links : List HashedLink) → IsHashedChain L a config links

@@ -1,5 +1,4 @@
-//! What records of an NSEC chain tell and prove: of lists, and of records that are handed in one by
-//! one.
+//! What records of an NSEC chain say and prove, as a list or one by one.
 ghost use Rattle.std.specs.{Prelude.{◌≡◌, ℕ, List, [], ◌∷◌, ◌++◌, IfSome, length}, Option.is_some};
 ghost use Rattle.domain_names.specs.Name.{is_strictly_below, before, common_labels, Name};
 ghost use Rattle.domain_zone.specs.{Covering.covers, Enclosers.{longer, shared}};
@@ -16,43 +15,44 @@ use domain_record::Record;
 /// An NSEC record (RFC 4034, section 4).
 pub type NsecRr<O, N> = Record<N, Nsec<O, N>>;
 
-/// Whether the owner and the next name are at or below the apex.
+/// Returns whether the owner and the next name are at or below the apex.
 pub fn is_inside<A: ToName, O: Octets, N: ToName>(apex: &A, listed: &NsecRr<O, N>) -> bool
     ensures { result ≡ is_inside (A.labels apex.now) (as_link N.labels listed.now) }
 {
     listed.owner().ends_with(apex) && listed.data().next_name().ends_with(apex)
 }
 
-/// Whether the owner is a zone cut.
+/// Returns whether the owner is a zone cut.
 pub fn is_at_cut<A: ToName, O: Octets, N: ToName>(apex: &A, listed: &NsecRr<O, N>) -> bool
     ensures { result ≡ is_at_cut (A.labels apex.now) (as_link N.labels listed.now) }
 {
     listed.data().types().contains(Rtype::NS) && !listed.owner().name_eq(apex)
 }
 
-/// Whether the name comes before another in canonical order.
+/// Returns whether the name comes before another in canonical order.
 pub fn is_before<N: ToName, M: ToName>(name: &N, other: &M) -> bool
     ensures { result ≡ before (N.labels name.now) (M.labels other.now) }
 {
     name.name_cmp(other).is_lt()
 }
 
-/// Whether the name is below another, and not the same.
+/// Returns whether the name is below another, and not the same.
 pub fn is_strictly_below<N: ToName, M: ToName>(name: &N, above: &M) -> bool
     ensures { result ≡ is_strictly_below (N.labels name.now) (M.labels above.now) }
 {
     name.ends_with(above) && !name.name_eq(above)
 }
 
-/// How many labels a name shares with the owner and with the next name of a record.
+/// The numbers of labels that a name shares with the owner and with the next name of a record.
 #[derive(Clone, Copy)]
 struct Shares {
     owner: usize,
     next: usize,
 }
 
-/// Whether the owner and the next name cover the name: it lies between the two, or on either side
-/// of them where the next name is not after the owner. If so, how many labels it shares with them.
+/// Returns how many labels the name shares with the owner and with the next name if these two cover
+/// it, or else None. They cover a name between the two or, if the next name is not after the owner,
+/// on either side of them.
 #[tactic(auto, using(crate::proofs::MeantLemmas::covers_is, std::proofs::lemmas::Grind::common_steps))]
 fn covered<N: ToName, M: ToName>(owner: &N, next: &N, name: &M) -> Option<Shares>
     ensures covers { is_some result
@@ -77,8 +77,8 @@ fn covered<N: ToName, M: ToName>(owner: &N, next: &N, name: &M) -> Option<Shares
     None
 }
 
-/// Whether the owner and the next name are at or below the apex, by what a name shares with them:
-/// where it is at or below the apex, as many labels as that has.
+/// Returns whether the owner and the next name are at or below the apex, given what a name shares
+/// with them. For a name at or below the apex, each must share as many labels as the apex has.
 #[tactic(auto, using(crate::proofs::MeantLemmas::below_by_shared, crate::proofs::MeantLemmas::below_is))]
 fn shares_apex<A: ToName, O: Octets, N: ToName, M: ToName>(
     apex: &A,
@@ -99,7 +99,7 @@ fn shares_apex<A: ToName, O: Octets, N: ToName, M: ToName>(
     shares.owner >= count && shares.next >= count
 }
 
-/// Whether the record is not passed over, and its owner is the name.
+/// Returns whether the record is not ignored, and its owner is the name.
 #[tactic(auto, using(domain_zone::proofs::NameLemmas::same_is))]
 pub fn is_match<A: ToName, O: Octets, N: ToName, M: ToName>(
     apex: &A,
@@ -112,9 +112,9 @@ pub fn is_match<A: ToName, O: Octets, N: ToName, M: ToName>(
     listed.owner().name_eq(name) && is_inside(apex, listed)
 }
 
-/// How many labels the longer has of the names that a name shares with the owner and with the next
-/// name of a record, where that is not passed over and covers the name: those of the closest
-/// encloser, where there is no such name.
+/// Returns how many labels the closest encloser of a name has, if the name does not exist: the
+/// larger number of labels that the name shares with the owner and with the next name. None if the
+/// record is ignored or does not cover the name.
 #[tactic(auto, using(crate::proofs::MeantLemmas::longer_is))]
 pub fn shared_if_covered<A: ToName, O: Octets, N: ToName, M: ToName>(
     apex: &A,
@@ -134,7 +134,7 @@ pub fn shared_if_covered<A: ToName, O: Octets, N: ToName, M: ToName>(
     Some(shares.owner.max(shares.next))
 }
 
-/// What a record says of its owner.
+/// Returns what a record says of its owner.
 fn match_verdict<A: ToName, O: Octets, N: ToName>(
     apex: &A,
     listed: &NsecRr<O, N>,
@@ -151,8 +151,8 @@ fn match_verdict<A: ToName, O: Octets, N: ToName>(
     Verdict::NoType
 }
 
-/// What a record says of a name that it covers, and that shares so many labels with its owner or
-/// its next name.
+/// Returns what a record says of a name that it covers. `count` is the larger number of labels that
+/// the name shares with the owner and with the next name.
 fn cover_verdict<A: ToName, O: Octets, N: ToName, M: ToName>(
     apex: &A,
     listed: &NsecRr<O, N>,
@@ -174,23 +174,25 @@ fn cover_verdict<A: ToName, O: Octets, N: ToName, M: ToName>(
     Verdict::NoName(count)
 }
 
-/// What records of an NSEC chain prove of a name and a type (RFC 4035, section 5.4). Takes no
-/// memory.
+/// Returns what records of an NSEC chain prove about a name and a type (RFC 4035, section 5.4).
+/// Does not allocate.
 ///
-/// The records may be any of the zone's chain, in any order, with repeats. Those whose owner or
-/// next name is not at or below the apex are passed over. Where several match the name, the first
-/// counts, and where none does, the first that covers it. With neither, the answer for a name at or
-/// below the apex is `NotProven`. Where a name has no records of its own, a wildcard may answer for
-/// it: that is a question about another name.
+/// The records may be any of the zone's chain, in any order, with repeats. A record is ignored if
+/// its owner or next name is not at or below the apex. The first record that matches the name
+/// counts or, if none matches, the first that covers it. With neither, the verdict on a name at or
+/// below the apex is `NotProven`. If a name has no records of its own, a wildcard may answer for
+/// it: check that wildcard too.
 ///
-/// The chain is one of `domain_nsec` that keeps the names below a DNAME. The records' signatures
-/// are not looked at.
+/// The chain is one of `domain_nsec` that keeps the names below a DNAME. Signatures are not
+/// verified.
 ///
-/// Two verdicts are no denials by themselves. `NoType` is none where the name owns a CNAME record,
-/// which answers in the place of the type: ask for CNAME too, which must not be `Has` (RFC 6840,
-/// section 4.3). `NoName` and `EmptyName` are none where a name above the asked one owns a DNAME
-/// record, which redirects all names below it: ask for DNAME at each of them that is at or below
-/// the apex, and none may be `Has` (RFC 6840, section 4.1).
+/// Some verdicts alone are no denial:
+///
+/// - `NoType` is none if the name owns a CNAME record, which answers in place of the type. Check
+///   CNAME too: it must not be `Has` (RFC 6840, section 4.3).
+/// - `NoName` and `EmptyName` are none if a name above this one owns a DNAME record, which
+///   redirects all names below it. Check DNAME at each name above that is at or below the apex:
+///   none may be `Has` (RFC 6840, section 4.1).
 #[tactic(auto, using(std::proofs::lemmas::Grind::common_steps, std::proofs::lemmas::List::take_all))]
 pub fn check_nsec<A: ToName, O: Octets, N: ToName, M: ToName>(
     apex: &A,
@@ -208,8 +210,8 @@ pub fn check_nsec<A: ToName, O: Octets, N: ToName, M: ToName>(
     check.verdict()
 }
 
-/// A question about a name and a type, for NSEC records that are handed in one after another, as
-/// they are read from a message (RFC 4035, section 5.4). Keeps none of them, and takes no memory.
+/// A check of a name and a type, for NSEC records that are passed one by one, as they are read from
+/// a message (RFC 4035, section 5.4). Keeps none of the records, and does not allocate.
 #[derive(Drop)]
 pub struct NsecCheck<'a> {
     apex: ParsedName<'a>,
@@ -220,7 +222,7 @@ pub struct NsecCheck<'a> {
 }
 
 impl<'a> NsecCheck<'a> {
-    /// A question for which no records have been handed in yet.
+    /// Returns a check that has read no records yet.
     pub fn new<A: ToName, M: ToName>(apex: &'a A, name: &'a M, rtype: Rtype) -> Self
         ensures { HasRead (A.labels apex.now) (M.labels name.now) rtype [] result }
     {
@@ -233,7 +235,7 @@ impl<'a> NsecCheck<'a> {
         }
     }
 
-    /// Hands in a record, which comes after those that were handed in before.
+    /// Reads a record, after those that were added before.
     #[tactic(auto, using(crate::proofs::MeantLemmas::found_stays, crate::proofs::MeantLemmas::found_last, crate::proofs::MeantLemmas::found_before))]
     pub fn add<O: Octets, N: ToName>(&mut self, listed: &Record<N, Nsec<O, N>>)
         ensures { (a x : Name) (t : ℕ) (before : List Link) → HasRead a x t before self.old
@@ -254,12 +256,12 @@ impl<'a> NsecCheck<'a> {
         }
     }
 
-    /// What the records that were handed in prove, as `check_nsec` says of their list.
+    /// Returns what the records that were added prove: the verdict of `check_nsec` on their list.
     pub fn verdict(&self) -> Verdict
         ensures { (a x : Name) (t : ℕ) (listed : List Link) → HasRead a x t listed self.now
             → IsChecked listed a x t result }
     {
-        // By this law what the records say is what they prove, of a type of 16 bits.
+        // By this law what the records say is what they prove, for a type of 16 bits.
         laws::readings_are_proved();
         let _number = self.rtype.to_int();
         if !self.name.ends_with(&self.apex) {

@@ -1,4 +1,4 @@
-//! What records of an NSEC3 chain tell of hashes and of closest enclosers, and what they prove.
+//! What records of an NSEC3 chain say of hashes and of closest enclosers, and what they prove.
 ghost use Rattle.std.specs.{Option.option_map, List.list_all};
 ghost use Rattle.std.specs.Prelude.{◌≡◌, ◌≤◌, ◌⊎◌, ℕ, Ok, Err, None, false, IfOk, IfErr, IsErrOf, length};
 ghost use Rattle.domain_codecs.specs.Codec.{is_digit};
@@ -25,14 +25,14 @@ use domain_octets::Octets;
 use domain_record::Record;
 use std::alloc::Global;
 
-/// Whether all octets are digits of Base 32 hex.
+/// Returns whether all octets are digits of Base 32 hex.
 fn are_digits(label: &[u8]) -> bool
     ensures { result ≡ list_all (is_digit Codec.Base32Hex) label.now }
 {
     label.iter().all(|c| digit_value(*c).is_some())
 }
 
-/// Whether the label is a text in Base 32 hex, in either case.
+/// Returns whether the label is Base 32 hex, in either case.
 fn is_spelling(label: &[u8]) -> bool
     ensures { result ≡ is_spelling label.now }
 {
@@ -40,8 +40,8 @@ fn is_spelling(label: &[u8]) -> bool
     are_digits(label) & !((over == 1) | (over == 3) | (over == 6))
 }
 
-/// The octets that the digits of a label stand for, in a buffer; what is no digit counts as 0, and
-/// bits after the last whole octet are passed over. Takes no memory.
+/// Decodes the Base 32 hex digits of a label into a buffer. An octet that is not a digit counts as
+/// 0, and bits after the last whole octet are ignored. Does not allocate.
 #[tactic(auto, using(domain_codecs::proofs::CodecLemmas::digits_steps, domain_codecs::proofs::CodecLemmas::digits_end))]
 fn read_label<'b>(label: &[u8], buffer: &'b mut [u8; 63]) -> &'b [u8]
     requires { length label.now ≤ 63 }
@@ -69,16 +69,16 @@ fn read_label<'b>(label: &[u8], buffer: &'b mut [u8; 63]) -> &'b [u8]
 /// An NSEC3 record (RFC 5155, section 3).
 pub type Nsec3Rr<O, N> = Record<N, Nsec3<O>>;
 
-/// What NSEC3 records tell of a hash (RFC 5155, section 1.3).
+/// What NSEC3 records say of a hash (RFC 5155, section 1.3).
 #[derive(Drop)]
 pub enum Nsec3Found<'a, O: Octets, N: ToName> {
-    /// The first record that matches it.
+    /// The first record that matches the hash.
     Match(&'a Record<N, Nsec3<O>>),
-    /// No record matches it, and this is the first that covers it, if one does.
+    /// No record matches the hash; this is the first that covers it, if one does.
     NoMatch(Option<&'a Record<N, Nsec3<O>>>),
 }
 
-/// The hash at which a record stands, in a buffer. None where the record has other parameters, or
+/// Decodes the hash of a record's owner into a buffer. None if the record has other parameters, or
 /// an owner of another form.
 #[tactic(auto, using(std::proofs::lemmas::Grind::common_steps, crate::proofs::HashedVerdictLemmas::label_short))]
 pub(crate) fn hash_of_owner<'b, A: ToName, O: Octets, N: ToName>(
@@ -110,8 +110,8 @@ pub(crate) fn hash_of_owner<'b, A: ToName, O: Octets, N: ToName>(
     Some(read_label(label, buffer))
 }
 
-/// Whether a hash lies between that of a record and the next one, or on either side of the two
-/// where the next one is not after the first.
+/// Returns whether a hash lies between the hashes of a record's owner and next owner. If the next
+/// one is not after the first, returns whether the hash lies on either side of the two.
 #[tactic(auto, using(crate::proofs::HashedVerdictLemmas::tied_is))]
 pub(crate) fn lies_between(owner: &[u8], next: &[u8], hash: &[u8]) -> bool
     ensures { result ≡ covers octets_before owner.now next.now hash.now }
@@ -126,7 +126,7 @@ pub(crate) fn lies_between(owner: &[u8], next: &[u8], hash: &[u8]) -> bool
     !order.is_eq() & between
 }
 
-/// The first record that matches the hash or, where none does, the first that covers it. Goes over
+/// Returns the first record that matches the hash or, if none does, the first that covers it. Reads
 /// the records once.
 #[tactic(auto, using(crate::proofs::HashedVerdictLemmas::tied_is))]
 fn find_hash<'a, A: ToName, O: Octets, N: ToName>(
@@ -157,22 +157,22 @@ fn find_hash<'a, A: ToName, O: Octets, N: ToName>(
     Nsec3Found::NoMatch(cover)
 }
 
-/// What NSEC3 records tell of the closest encloser of a name (RFC 5155, section 8.3): of the name
-/// and its ancestors at or below the apex, the first that a record matches.
+/// What NSEC3 records say of the closest encloser of a name (RFC 5155, section 8.3): the first of
+/// the name and its ancestors at or below the apex that a record matches.
 #[derive(Drop)]
 pub struct Nsec3Encloser<'a, O: Octets, N: ToName> {
-    /// How many labels that name has, the root not counted: it is the last so many labels of the
-    /// name that was asked for.
+    /// The number of labels of that name, without the root: it is the last `count` labels of the
+    /// name that was looked up.
     pub count: usize,
-    /// The first record that matches it.
+    /// The first record that matches that name.
     pub matching: &'a Record<N, Nsec3<O>>,
-    /// The first record that covers the next closer name, which is one label longer; None where no
-    /// record does, or where the name that was asked for is matched itself.
+    /// The first record that covers the next closer name, which is one label longer. None if no
+    /// record does, or if the name that was looked up is itself matched.
     pub cover: Option<&'a Record<N, Nsec3<O>>>,
 }
 
 impl<'a, O: Octets, N: ToName> Nsec3Encloser<'a, O, N> {
-    /// Whether the name that is matched is a zone cut: its record lists NS, and it is not the apex.
+    /// Returns whether the matched name is a zone cut: its record lists NS, and it is not the apex.
     pub fn is_zone_cut<A: ToName>(&self, apex: &A) -> bool
         ensures { result ≡ encloser_is_cut (A.labels apex.now) (encloser_of N.labels self.now) }
     {
@@ -180,8 +180,8 @@ impl<'a, O: Octets, N: ToName> Nsec3Encloser<'a, O, N> {
     }
 }
 
-/// What the records say of the name with this wire form in lower case. Hashes it, and goes over the
-/// records once.
+/// Returns what the records say of the name with this wire form in lower case. Hashes the name, and
+/// reads the records once.
 fn look_up<'a, A: ToName, O: Octets, N: ToName, H: Nsec3Hasher>(
     alloc: Global,
     apex: &A,
@@ -200,22 +200,23 @@ fn look_up<'a, A: ToName, O: Octets, N: ToName, H: Nsec3Hasher>(
     Ok(find_hash(apex, param, records.nsec3s.as_slice(), hash.as_slice()))
 }
 
-/// What NSEC3 records tell of the closest encloser of a name (RFC 5155, section 8.3). None where
-/// they match neither the name nor an ancestor at or below the apex, or where the name is not at or
+/// Returns what NSEC3 records say of the closest encloser of a name (RFC 5155, section 8.3). None
+/// if they match neither the name nor an ancestor at or below the apex, or if the name is not at or
 /// below the apex.
 ///
-/// The records may be any, in any order, with repeats. Those with another algorithm, iterations or
-/// salt than the NSEC3PARAM record, or whose owner is not one label in Base 32 hex before the apex,
-/// are passed over; classes, TTLs and flags are not compared. Names are hashed with the parameters
-/// of the NSEC3PARAM record, from the name towards the apex, up to the first that a record matches;
-/// no name is hashed twice, and of a name that is not at or below the apex none is. The records are
-/// gone over once for each name that is hashed. Takes no memory but for the hasher's answers, one
-/// at a time.
+/// The records may be any, in any order, with repeats. A record is ignored if it differs from the
+/// NSEC3PARAM record in algorithm, iterations or salt. It is also ignored if its owner is not one
+/// label in Base 32 hex before the apex. Classes, TTLs and flags are not compared.
+///
+/// Names are hashed with the parameters of the NSEC3PARAM record, from the name towards the apex,
+/// up to the first that a record matches. No name is hashed twice. A name that is not at or below
+/// the apex is not hashed. For each name that is hashed, the records are read once. Allocates
+/// nothing but the hasher's digests, one at a time.
 ///
 /// # Errors
 ///
-/// `Hasher` with the number of the first refusal among the hashes that are asked for, and
-/// `OutOfMemory` where the hasher has none.
+/// `Hasher` with the number of the first error among the hashes that are computed, and
+/// `OutOfMemory` if the hasher has no memory.
 pub fn find_nsec3_encloser<'a, A: ToName, O: Octets, N: ToName, M: ToName, H: Nsec3Hasher>(
     alloc: Global,
     apex: &A,
@@ -229,7 +230,7 @@ pub fn find_nsec3_encloser<'a, A: ToName, O: Octets, N: ToName, M: ToName, H: Ns
         (hashed_records (A.labels apex.now) N.labels (H.answer hasher.now) records.now)
         (M.labels name.now) (option_map (encloser_of N.labels) found)) }
 
-    // An error is the first refusal, or want of memory.
+    // An error is the first of the hasher, or out of memory.
     ensures refusal { (n : ℕ) → IsErrOf result (hash_error.Hasher n)
         → IsFirstRefusal
         (hashed_records (A.labels apex.now) N.labels (H.answer hasher.now) records.now)
@@ -242,8 +243,8 @@ pub fn find_nsec3_encloser<'a, A: ToName, O: Octets, N: ToName, M: ToName, H: Ns
     if !name.ends_with(apex) {
         return Ok(None);
     }
-    // The wire form of each name above is an end of this one. Of a name that no record matches the
-    // first cover is kept for the name above it, and not the hash.
+    // The wire form of each name above is a suffix of this one. For a name that no record matches,
+    // the first cover is kept for the name above it, and not the hash.
     let mut buffer = [0; MAX_NAME];
     let mut octets = name.lower_wire(&mut buffer);
     let mut cover = None;
@@ -269,13 +270,13 @@ pub fn find_nsec3_encloser<'a, A: ToName, O: Octets, N: ToName, M: ToName, H: Ns
     }
 }
 
-/// What NSEC3 records tell of one name: the first that matches its hash or, where none does, the
-/// first that covers it. Records are passed over, and the name is hashed, as by
-/// `find_nsec3_encloser`; no other name is. Takes no memory but for the hasher's answer.
+/// Returns what NSEC3 records say of one name: the first that matches its hash or, if none does,
+/// the first that covers it. Ignores records and hashes the name as `find_nsec3_encloser` does, and
+/// hashes no other name. Allocates nothing but the hasher's digest.
 ///
 /// # Errors
 ///
-/// `Hasher` with the number of the hasher's refusal, and `OutOfMemory` where it has none.
+/// `Hasher` with the number of the hasher's error, and `OutOfMemory` if the hasher has no memory.
 pub fn find_nsec3<'a, A: ToName, O: Octets, N: ToName, M: ToName, H: Nsec3Hasher>(
     alloc: Global,
     apex: &A,
@@ -296,8 +297,8 @@ pub fn find_nsec3<'a, A: ToName, O: Octets, N: ToName, M: ToName, H: Nsec3Hasher
     Ok(look_up(alloc, apex, records, lowered, hasher)?)
 }
 
-/// What the first cover of the next closer name says of a name. The number counts the labels of its
-/// closest encloser.
+/// Returns what the first cover of the next closer name says of a name. `count` is the number of
+/// labels of its closest encloser.
 fn cover_verdict<O: Octets, N: ToName>(cover: Option<&Nsec3Rr<O, N>>, count: usize) -> Verdict
     ensures { result ≡ hash_cover_verdict count
         (option_map (λ k. as_hashed_link N.labels k.now) cover.entry) }
@@ -312,7 +313,8 @@ fn cover_verdict<O: Octets, N: ToName>(cover: Option<&Nsec3Rr<O, N>>, count: usi
     }
 }
 
-/// What the records say of a name with so many labels, whose closest encloser they tell.
+/// Returns what the records say of a name with `count` labels, given what they say of its closest
+/// encloser.
 pub(crate) fn found_verdict<A: ToName, O: Octets, N: ToName>(
     apex: &A,
     found: Option<Nsec3Encloser<'_, O, N>>,
@@ -346,29 +348,33 @@ pub(crate) fn found_verdict<A: ToName, O: Octets, N: ToName>(
     }
 }
 
-/// What records of an NSEC3 chain prove of a name and a type (RFC 5155, section 8).
+/// Returns what records of an NSEC3 chain prove about a name and a type (RFC 5155, section 8).
 ///
-/// The records may be any of the zone's chain, in any order, with repeats. Those with another
-/// algorithm, iterations or salt than the NSEC3PARAM record, or whose owner is not one label in
-/// Base 32 hex before the apex, are passed over; classes, TTLs and flags are not compared.
+/// The records may be any of the zone's chain, in any order, with repeats. A record is ignored if
+/// it differs from the NSEC3PARAM record in algorithm, iterations or salt. It is also ignored if
+/// its owner is not one label in Base 32 hex before the apex. Classes, TTLs and flags are not
+/// compared.
 ///
 /// Names are hashed with the parameters of the NSEC3PARAM record, from the name towards the apex,
-/// up to the first that a record matches; no name is hashed twice, and of a name that is not at or
-/// below the apex none is. The records are gone over once for each name that is hashed. With no
-/// match the answer is `NotProven`. It is that too where the name that is matched is neither the
-/// one asked for nor told to be a zone cut, and no record covers the next closer name, which is one
-/// label longer. The first match and the first cover in the list count, and the flag of opt-out is
-/// the cover's. Takes no memory but for the hasher's answers, one at a time.
+/// up to the first that a record matches. No name is hashed twice. A name that is not at or below
+/// the apex is not hashed. For each name that is hashed, the records are read once.
 ///
-/// As with `check_nsec`, `NoType` is no denial where the name owns a CNAME record (ask for CNAME
-/// too), and `NoName` and `EmptyName` are none where a name above it owns a DNAME record (ask for
-/// DNAME at the closest encloser and at each name between it and the apex; RFC 6840, sections 4.1
-/// and 4.3).
+/// If no name is matched, the verdict is `NotProven`. If the matched name is neither the one
+/// checked nor a zone cut by its record, a record must cover the next closer name, which is one
+/// label longer: else the verdict is `NotProven` too. The first match and the first cover in the
+/// list count, and the opt-out flag is the cover's. Allocates nothing but the hasher's digests, one
+/// at a time.
+///
+/// As with `check_nsec`, some verdicts alone are no denial (RFC 6840, sections 4.1 and 4.3):
+///
+/// - `NoType` is none if the name owns a CNAME record: check CNAME too.
+/// - `NoName` and `EmptyName` are none if a name above it owns a DNAME record: check DNAME at the
+///   closest encloser and at each name between it and the apex.
 ///
 /// # Errors
 ///
-/// `Hasher` with the number of the first refusal among the hashes that are asked for, and
-/// `OutOfMemory` where the hasher has none.
+/// `Hasher` with the number of the first error among the hashes that are computed, and
+/// `OutOfMemory` if the hasher has no memory.
 pub fn check_nsec3<A: ToName, O: Octets, N: ToName, M: ToName, H: Nsec3Hasher>(
     alloc: Global,
     apex: &A,

@@ -1,4 +1,4 @@
--- The records of an NSEC3 chain that a server answers a question with (RFC 5155, section 7.2).
+-- The records of an NSEC3 chain with which a server answers a question (RFC 5155, section 7.2).
 use Rattle.std.specs.{List.Contains, Prelude.{ℕ, ◌≡◌, ◌⊎◌, ◌<◌, ◌==◌, ◌++◌, true, false, List, length, Option, Some, None, Result, Ok, Err, IfOk, slice_get}}
 use Rattle.std.specs.Prelude.{if◌then◌else◌, ◌&&◌, ◌||◌, Bool, not}
 use Rattle.domain_names.specs.Name.{is_at_or_below, last_labels, lowered, same_name, wire_of, Name}
@@ -16,10 +16,11 @@ use Rattle.domain_octets.specs.Octets.{Octets}
 use Rattle.domain_base.specs.Types.{dname}
 use Rattle.domain_bitmap.specs.Blocks.{contains_type}
 
--- ---- The records of an NSEC3 chain that a server answers a question with (RFC 5155, section 7.2).
+-- ---- The records of an NSEC3 chain with which a server answers a question (RFC 5155, section
+-- 7.2).
 
--- the links are the NSEC3 chain of a zone, in which names below a DNAME are left out; they were
--- made by this hash, and the NSEC3PARAM record stands at the apex and tells its parameters
+-- the links are the NSEC3 chain of a zone, without the names below a DNAME, and made with this
+-- hash; the NSEC3PARAM record is at the apex, and has the parameters of the chain
 pub record IsHashedWhole (L : List ZoneRecord) (config : ChainConfig) (hash : Hash)
     (chain : ChainRecords) : Type 0 where
   pub leaves_out : LeavesOutBelowDname L chain.param.owner config.occlude_below_dname
@@ -42,27 +43,26 @@ abbrev pub without_records : Answer → Nsec3Denial
 without_records answer =
     record { answer = answer; of_encloser = None; of_next_closer = None; of_wildcard = None }
 
--- the record at a place was picked for the closest encloser or for the next closer name
+-- the record at this place was picked for the closest encloser or for the next closer name
 abbrev pub TellsOfName : Nsec3Denial → ℕ → Type 0
 TellsOfName d place = (d.of_encloser ≡ Some place) ⊎ (d.of_next_closer ≡ Some place)
 
--- it was picked
+-- the record at this place was picked
 abbrev pub IsPicked : Nsec3Denial → ℕ → Type 0
 IsPicked d place = TellsOfName d place ⊎ (d.of_wildcard ≡ Some place)
 
--- the links that were picked: that of the closest encloser, that of the next closer name, and that
--- of the wildcard
+-- the picked links: those of the closest encloser, of the next closer name, and of the wildcard
 abbrev pub hashed_picked : List HashedLink → Nsec3Denial → List HashedLink
 hashed_picked links d =
     at_place links d.of_encloser ++ (at_place links d.of_next_closer
     ++ at_place links d.of_wildcard)
 
--- a place that is not this one
+-- a place, unless it is `gone`
 abbrev pub other_place : ℕ → Option ℕ → Option ℕ
 other_place gone None = None
 other_place gone (Some place) = if place == gone then None else Some place
 
--- what was picked, but for the record at a place
+-- the picked places without this one
 abbrev pub without : ℕ → Nsec3Denial → Nsec3Denial
 without gone d =
     record d {
@@ -71,16 +71,16 @@ without gone d =
       of_wildcard = other_place gone d.of_wildcard;
     }
 
--- the links of that
+-- the links at these places
 abbrev pub picked_without : List HashedLink → ℕ → Nsec3Denial → List HashedLink
 picked_without links gone d = hashed_picked links (without gone d)
 
--- the places that were picked are places of the chain
+-- the picked places are places of the chain
 abbrev pub AreHashedThere : List HashedLink → Nsec3Denial → Type 0
 AreHashedThere links d = (place : ℕ) → IsPicked d place → place < length links
 
--- without any picked record of the name nothing is proved, and without one that is the wildcard's
--- alone no more than that there is no such name
+-- without any one of the records of the name, nothing is proved; without a record that was picked
+-- only for the wildcard, only that the name does not exist
 pub record AreHashedNeeded (L : List ZoneRecord) (a : Name) (config : ChainConfig)
     (links : List HashedLink) (x : Name) (t : ℕ) (d : Nsec3Denial) : Type 0 where
   pub name : (place : ℕ) → TellsOfName d place
@@ -89,8 +89,8 @@ pub record AreHashedNeeded (L : List ZoneRecord) (a : Name) (config : ChainConfi
       → hashed_proved_answer L a config (picked_without links place d) x t
       ≡ NoCloserName (length (hashed_encloser L a config x))
 
--- each record that was picked tells of its part: one matches the closest encloser, one covers the
--- next closer name, and one matches or covers the wildcard below the closest encloser
+-- each picked record has its role: one matches the closest encloser, one covers the next closer
+-- name, and one matches or covers the wildcard below the closest encloser
 pub record TellOfTheirParts (L : List ZoneRecord) (a : Name) (config : ChainConfig)
     (links : List HashedLink) (x : Name) (d : Nsec3Denial) : Type 0 where
   pub encloser : (place : ℕ) → d.of_encloser ≡ Some place
@@ -102,7 +102,7 @@ pub record TellOfTheirParts (L : List ZoneRecord) (a : Name) (config : ChainConf
   pub wildcard : (place : ℕ) → d.of_wildcard ≡ Some place
       → tells_wildcard L a config (at_place links (Some place)) x ≡ true
 
--- what is picked of a chain of the records L for a question about x and t, and what it proves
+-- what is picked from a chain of the zone L for a question about x and t, and what it proves
 pub record IsHashedDenial (L : List ZoneRecord) (config : ChainConfig) (chain : ChainRecords)
     (x : Name) (t : ℕ) (d : Nsec3Denial) : Type 0 where
   -- the answer is what the zone says
@@ -110,59 +110,59 @@ pub record IsHashedDenial (L : List ZoneRecord) (config : ChainConfig) (chain : 
   -- the records prove it
   pub proved : hashed_proved_answer L chain.param.owner config (hashed_picked chain.links d) x t
       ≡ hashed_zone_answer L chain.param.owner config x t
-  -- each tells of its part, and each is needed
+  -- each has its role, and each is needed
   pub parts : TellOfTheirParts L chain.param.owner config chain.links x d
   pub needed : AreHashedNeeded L chain.param.owner config chain.links x t d
 
--- what is promised of what is picked of a chain whose names are hashed so, or of the error in its
--- place
+-- the contract of what is picked from a chain with this hash, or of the error in its place
 pub record IsHashedDenied (hash : Hash) (chain : ChainRecords) (x : Name) (t : ℕ)
     (result : Result Nsec3Denial Nsec3HashError) : Type 0 where
   pub outside : is_at_or_below x chain.param.owner ≡ false
       → result ≡ Ok (without_records OutsideZone)
   pub parent : is_at_or_below x chain.param.owner ≡ true
       → is_at_parent chain.param.owner x t ≡ true → result ≡ Ok (without_records AtParent)
-  -- of the chain of any zone in which no other name has a hash that is asked for, the answer is
-  -- what that zone says, the records prove it, each tells of its part, and each is needed
+  -- for the chain of any zone in which no other name has a hash that is looked up: the answer is
+  -- what that zone says, the records prove it, each has its role, and each is needed
   pub denial : IfOk result (λ d. (L : List ZoneRecord) (config : ChainConfig)
       → IsHashedWhole L config hash chain → AreAskedAlone L chain.param.owner config x
       → IsHashedDenial L config chain x t d)
-  -- of the chain of any zone at all, it is what `judge_nsec3` says of these records alone
+  -- for the chain of any zone at all: the answer is what `judge_nsec3` says of these records alone
   pub exact : needs_no_records chain.param.owner x t ≡ false
       → IfOk result (λ d. (L : List ZoneRecord) (config : ChainConfig)
       → IsHashedWhole L config hash chain
       → IsHashedRead (with_links (all_records hash chain) (hashed_picked chain.links d)) x t d.answer)
-  -- of any chain, the records are there
+  -- for any chain: the picked places are in it
   pub there : IfOk result (AreHashedThere chain.links)
 
--- the hasher refuses x, an ancestor at or below the apex, or the wildcard right below one of these
+-- the hasher fails for x, an ancestor at or below the apex, or the wildcard right below one of
+-- these
 pub record IsRefusedAbove (a : Name) (hash : Hash) (x : Name) (n : ℕ) : Type 0 where
   pub name : Name
   pub above : is_at_or_below x name ≡ true
   pub within : is_at_or_below name a ≡ true
   pub refused : (hash_name hash name ≡ Err n) ⊎ (hash_name hash (wildcard_below name) ≡ Err n)
 
--- these are the places that were picked, each once
+-- the list has the picked places, each once
 pub record ArePlaces (d : Nsec3Denial) (places : List (Option ℕ)) : Type 0 where
   pub all : (place : ℕ) → IsPicked d place → Contains places (Some place)
   pub only : (place : ℕ) → Contains places (Some place) → IsPicked d place
   pub once : (i j place : ℕ) → slice_get places i ≡ Some (Some place)
       → slice_get places j ≡ Some (Some place) → i ≡ j
 
--- ---- How the records of an NSEC3 chain that tell of a name are found; a is the apex.
+-- ---- How the records of an NSEC3 chain for a name are found; a is the apex.
 
--- the chain is that of some zone, made by this hash
+-- the chain is that of some zone, made with this hash
 abbrev pub IsOfZone : Hash → ChainRecords → Type 0
 IsOfZone hash chain =
     (L : List ZoneRecord) × (config : ChainConfig) × IsHashedWhole L config hash chain
 
 -- ---- the record of a hash
 
--- a record of these parameters matches or covers v
+-- a record with these parameters matches or covers v
 abbrev pub tells_hash : Name → Parameters → Octets → HashedLink → Bool
 tells_hash a p v k = is_hash_match a p v k || is_hash_cover a p v k
 
--- the record at a place matches v, or covers it, and no other does either
+-- the record at a place matches v, or covers it, and no other record does either
 pub record IsOfHash (R : HashedRecords) (v : Octets) (place : ℕ) (is_match : Bool) : Type 0 where
   pub link : HashedLink
   pub there : slice_get R.links place ≡ Some link
@@ -171,17 +171,17 @@ pub record IsOfHash (R : HashedRecords) (v : Octets) (place : ℕ) (is_match : B
   pub only : (j : ℕ) (k : HashedLink) → slice_get R.links j ≡ Some k
       → tells_hash R.apex R.parameters v k ≡ true → j ≡ place
 
--- so it does the hash of the name with this wire form in lower case
+-- the same for the hash of the name with this wire form in lower case
 pub record IsSole (R : HashedRecords) (wire : Octets) (place : ℕ) (is_match : Bool) : Type 0 where
   pub value : Octets
   pub known : R.hash wire ≡ Ok value
   pub of : IsOfHash R value place is_match
 
--- that of the name n
+-- the same for the name n
 abbrev pub IsSoleOf : HashedRecords → Name → ℕ → Bool → Type 0
 IsSoleOf R n place is_match = IsSole R (wire_of (lowered n)) place is_match
 
--- the place is one of the chain and, of the chain of a zone, that of this record
+-- the place is in the chain and, if the chain is that of a zone, is the place of this record
 pub record IsFoundAt (hash : Hash) (chain : ChainRecords) (wire : Octets) (place : ℕ)
     (is_match : Bool) : Type 0 where
   pub inside : place < length chain.links
@@ -189,13 +189,13 @@ pub record IsFoundAt (hash : Hash) (chain : ChainRecords) (wire : Octets) (place
 
 -- ---- the closest encloser
 
--- n is x itself, or the record at the place is that which covers the name one label longer
+-- n is x itself, or the record at the place covers the name one label longer
 abbrev pub IsCoverAt : HashedRecords → Name → Name → Option ℕ → Type 0
 IsCoverAt R x n None = same_name n x ≡ true
 IsCoverAt R x n (Some place) = (same_name n x ≡ false) × IsSoleOf R (next_closer x n) place false
 
 -- n is x or an ancestor at or below the apex, and no record matches a name before it; the place of
--- the cover is one of the chain
+-- the cover is in the chain
 pub record IsReached (hash : Hash) (chain : ChainRecords) (x n : Name) (cover : Option ℕ)
     : Type 0 where
   pub above : is_at_or_below x n ≡ true
@@ -204,7 +204,7 @@ pub record IsReached (hash : Hash) (chain : ChainRecords) (x n : Name) (cover : 
   pub first : IsOfZone hash chain → IsFirst (all_records hash chain) x n
   pub closes : IsOfZone hash chain → IsCoverAt (all_records hash chain) x n cover
 
--- the name with so many labels is reached, and a record matches it
+-- the name with f.count labels is reached, and a record matches it
 pub record IsPlaced (hash : Hash) (chain : ChainRecords) (x : Name) (f : PlacedEncloser)
     : Type 0 where
   pub name : Name
@@ -212,14 +212,14 @@ pub record IsPlaced (hash : Hash) (chain : ChainRecords) (x : Name) (f : PlacedE
   pub reached : IsReached hash chain x name f.cover
   pub found : IsFoundAt hash chain (wire_of (lowered name)) f.place true
 
--- what the way from x to the apex ends at
+-- what the search from x to the apex finds
 abbrev pub IsFoundPlaced : Hash → ChainRecords → Name → Option PlacedEncloser → Type 0
 IsFoundPlaced hash chain x None = IsOfZone hash chain → IsUnmatched (all_records hash chain) x
 IsFoundPlaced hash chain x (Some f) = IsPlaced hash chain x f
 
 -- ---- what is picked
 
--- an encloser by its places, whose record is k
+-- an encloser, by its places and its record k
 abbrev pub encloser_at : List HashedLink → PlacedEncloser → HashedLink → Encloser
 encloser_at links f k = record { count = f.count; link = k; cover = link_at links f.cover }
 
@@ -232,7 +232,7 @@ abbrev pub next_role : Name → Encloser → ℕ → Option ℕ → Option ℕ
 next_role a e n cover = if rests_below a e n then cover else None
 
 -- what the record k of an encloser at these places, and the cover, say of a name with n labels, and
--- the place of the cover, where that rests on it
+-- the place of the cover if the answer rests on it
 abbrev pub IsFirstAnswer : ChainRecords → PlacedEncloser → ℕ → ℕ → HashedLink → Answer × Option ℕ
     → Type 0
 IsFirstAnswer chain f n t k told =

@@ -11,9 +11,9 @@ use domain_nsec3::Nsec3Chain;
 use domain_octets::Octets;
 use std::alloc::Global;
 
-/// The closest encloser of a name: how many labels it has, and the places of the record that
-/// matches it and of that which covers the next closer name. None for the second where it is the
-/// name itself.
+/// The closest encloser of a name: its number of labels, and the places of the record that matches
+/// it and of the record that covers the next closer name. `cover` is None if the closest encloser
+/// is the name itself.
 #[derive(Clone, Copy)]
 pub(crate) struct PlacedEncloser {
     pub(crate) count: usize,
@@ -21,9 +21,9 @@ pub(crate) struct PlacedEncloser {
     pub(crate) cover: Option<usize>,
 }
 
-/// The closest encloser of a name at or below the apex: names are hashed from this one on, up to
-/// the first that a record matches, and the wire form of each name above is an end of its own. Of a
-/// name that none matches the cover is kept for the name above it.
+/// Finds the closest encloser of a name at or below the apex. Hashes names from this one towards
+/// the apex, up to the first that a record matches. The wire form of each name above is a suffix of
+/// the name's own. If no record matches a name, its cover is kept for the name above it.
 pub(crate) fn find_encloser<O: Octets, M: ToName, H: Nsec3Hasher>(
     alloc: Global,
     chain: &Nsec3Chain<'_, O>,

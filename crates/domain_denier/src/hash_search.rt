@@ -1,4 +1,4 @@
-//! The record of a chain that says something of a hash.
+//! The record of a chain that matches or covers a hash.
 ghost use Rattle.std.specs.Prelude.{◌≡◌, ◌<◌, Err, length, IfOk, IfErr};
 ghost use Rattle.domain_nsec3.specs.{Chain.{Hash, IsNoHash}, Meaning.octets_before, View.hash_by};
 ghost use Rattle.domain_denier.specs.HashedPicked.{all_records, IsFoundAt, IsOfHash, IsOfZone};
@@ -9,23 +9,23 @@ use domain_nsec3::{Nsec3Chain, hash_wire};
 use domain_octets::Octets;
 use std::alloc::Global;
 
-/// The record of a chain that a hash falls to, by its place.
+/// The place of the record of a chain that matches or covers a hash.
 #[derive(Clone, Copy)]
 pub(crate) struct HashPlace {
     pub(crate) place: usize,
-    /// Whether the hash is that of the record; else the record covers it.
+    /// Whether the record matches the hash; otherwise it covers the hash.
     pub(crate) matches: bool,
 }
 
-/// Whether the octets come before others.
+/// Returns whether the octets come before others.
 fn is_before(octets: &[u8], other: &[u8]) -> bool
     ensures { result ≡ octets_before octets.now other.now }
 {
     octets.cmp(other).is_lt()
 }
 
-/// The record that matches or covers a hash: the last whose own hash is not after it and, where
-/// each is, the last of all.
+/// Returns the place of the record that matches or covers a hash: the last record whose own hash is
+/// not after it or, if there is none, the last record of all.
 fn find_hash<O: Octets>(chain: &Nsec3Chain<'_, O>, hash: &[u8]) -> HashPlace
     requires some { 0 < length chain.now.links }
     ensures inside { result.place < length chain.now.links }
@@ -58,7 +58,8 @@ fn find_hash<O: Octets>(chain: &Nsec3Chain<'_, O>, hash: &[u8]) -> HashPlace
     }
 }
 
-/// The record that matches or covers the hash of the name with this wire form in lower case.
+/// Returns the place of the record that matches or covers the hash of the name with this wire form
+/// in lower case.
 pub(crate) fn look_up<O: Octets, H: Nsec3Hasher>(
     alloc: Global,
     chain: &Nsec3Chain<'_, O>,

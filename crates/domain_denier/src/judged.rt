@@ -13,7 +13,7 @@ use domain_answer::{
 use domain_base::{ParsedName, Rtype, ToName};
 use domain_nsec::{BorrowedNsec, NsecChain};
 
-/// The record at a place of the chain.
+/// Returns the record at a place of the chain.
 fn lend_at<'c, N: ToName>(chain: &'c NsecChain<'_, N>, place: usize) -> BorrowedNsec<'c>
     requires { place < length chain.now }
     ensures { slice_get chain.now place ≡ Some (as_link (λ n. n) result) }
@@ -24,7 +24,7 @@ fn lend_at<'c, N: ToName>(chain: &'c NsecChain<'_, N>, place: usize) -> Borrowed
     listed
 }
 
-/// What the record at a place of the chain answers of a name.
+/// Returns what the record at a place of the chain answers for a name.
 fn judge_one<A: ToName, N: ToName, M: ToName>(
     apex: &A,
     chain: &NsecChain<'_, N>,
@@ -40,7 +40,7 @@ fn judge_one<A: ToName, N: ToName, M: ToName>(
     judge_name(apex, &[lend_at(chain, place)], name, rtype)
 }
 
-/// Whether an answer comes of a record that matches or covers the name.
+/// Returns true only if the answer is from a record that matches or covers the name.
 fn is_told(answer: NameAnswer) -> bool
     ensures { IsTrue result → Tells answer }
 {
@@ -50,8 +50,9 @@ fn is_told(answer: NameAnswer) -> bool
     )
 }
 
-/// The record that matches or covers a name, by its place, and what it answers of the name. It
-/// stands where the keys suggest, or else where a search ends: what it says tells which.
+/// Returns the place of the record that matches or covers a name, and what it answers for the name.
+/// Tries the place that the keys suggest, and searches if the record there says nothing of the
+/// name.
 pub(crate) fn first_of<A: ToName, N: ToName, M: ToName>(
     apex: &A,
     chain: &NsecChain<'_, N>,
@@ -76,17 +77,17 @@ pub(crate) fn first_of<A: ToName, N: ToName, M: ToName>(
     (place, judge_one(apex, chain, name, rtype, place))
 }
 
-/// What a record that denies a name says of the wildcard below the closest encloser of the name.
+/// What a record that denies a name says of the wildcard below the name's closest encloser.
 #[derive(Clone, Copy)]
 pub(crate) enum OfWildcard {
-    /// It matches or covers the wildcard too, and this is the answer.
+    /// The record matches or covers the wildcard too, and this is the answer.
     Told(Answer),
-    /// It says nothing of the wildcard; true where it neither matches nor covers it.
+    /// The record says nothing of the wildcard. True only if it neither matches nor covers it.
     Untold(bool),
 }
 
-/// What the record at a place says of the wildcard below the closest encloser of a name, which has
-/// so many labels.
+/// Returns what the record at a place says of the wildcard below the closest encloser of a name,
+/// which has `count` labels.
 pub(crate) fn of_wildcard<A: ToName, N: ToName>(
     apex: &A,
     chain: &NsecChain<'_, N>,
@@ -110,10 +111,10 @@ pub(crate) fn of_wildcard<A: ToName, N: ToName>(
     }
 }
 
-/// The record that matches or covers the wildcard below the closest encloser of a name, which has
-/// so many labels, by its place, and what it and the first one say of the name. The first denies
-/// the name; where it is silent of the wildcard, what the suggested record says of that is the
-/// answer of both.
+/// Returns the place of the record that matches or covers the wildcard below the closest encloser
+/// of a name, and what this record and the first one say of the name. The closest encloser has
+/// `count` labels. The first record denies the name. If the first does not match or cover the
+/// wildcard, what the suggested record says of the wildcard is the answer of both.
 pub(crate) fn second_of<A: ToName, N: ToName, M: ToName>(
     apex: &A,
     chain: &NsecChain<'_, N>,

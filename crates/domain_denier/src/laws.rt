@@ -1,4 +1,5 @@
-//! What holds of the NSEC3 chains that records are picked of. A caller calls the law in its body.
+//! Laws of the NSEC3 chains from which records are picked. To use a law, call it in a function
+//! body.
 ghost use Rattle.std.specs.Prelude.{◌≡◌, List};
 ghost use Rattle.domain_names.specs.Name.{Name};
 ghost use Rattle.domain_zone.specs.Zone.{ZoneRecord};
@@ -8,8 +9,8 @@ ghost use Rattle.domain_nsec3.specs.declared.config.Nsec3ParamTtlMode.{Nsec3Para
 ghost use Rattle.domain_answer.specs.Reading.{LeavesOutBelowDname};
 ghost use Rattle.domain_denier.specs.HashedPicked.{IsHashedWhole};
 
-/// A chain that `Nsec3Chain::generate` gives is one that `deny_nsec3` may be asked of: its
-/// NSEC3PARAM record stands at the apex, and tells the parameters that its names were hashed with.
+/// Each chain that `Nsec3Chain::generate` returns can be passed to `deny_nsec3`: the owner of its
+/// NSEC3PARAM record is the apex, and its parameters are those that names were hashed with.
 pub fn generated_chains_are_whole()
     ensures owner { (L : List ZoneRecord) (a : Name) (config : ChainConfig)
         (mode : Nsec3ParamTtlMode) (chain : ChainRecords)

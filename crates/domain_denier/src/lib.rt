@@ -2,17 +2,17 @@
 //! section 3.1.3; RFC 5155, section 7.2).
 //!
 //! `deny_nsec` picks the records of an NSEC chain that a response to a question about a name and a
-//! type needs: the one that matches or covers the name, and the one of the wildcard below its
-//! closest encloser, where the name does not exist. What it picks, `judge_nsec` of `domain_answer`
-//! accepts: its answer is what the zone says. It goes over no list: a question costs some twenty
-//! comparisons of names where the chain has a million. `NsecDenier`, made once of a chain, does the
-//! same with none but those that tell what a record says.
+//! type needs: the one that matches or covers the name and, if the name does not exist, the one of
+//! the wildcard below its closest encloser. `judge_nsec` of `domain_answer` accepts what it picks:
+//! the answer is what the zone says. It does not read the whole chain: for a chain of a million
+//! records, a question costs about twenty comparisons of names. `NsecDenier`, made once for a
+//! chain, does the same by comparing only the names that decide what a record says.
 //!
-//! `deny_nsec3` picks those of an NSEC3 chain, which `judge_nsec3` accepts: the one that matches
-//! the closest encloser of the name, the one that covers the name one label longer, and the one of
-//! the wildcard, each where the answer rests on it. It hashes the names from the name up to the
-//! closest encloser and, where it is asked for, the wildcard, and searches for each hash in the
-//! same way.
+//! `deny_nsec3` picks the records of an NSEC3 chain, which `judge_nsec3` accepts. They are the
+//! record that matches the closest encloser of the name, the one that covers the name one label
+//! longer, and the one of the wildcard. Each is picked if the answer rests on it. It hashes the
+//! names from the name up to the closest encloser and, if needed, the wildcard, and searches for
+//! each hash in the same way.
 #![tactic(auto)]
 
 mod encloser;

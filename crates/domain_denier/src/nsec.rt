@@ -1,4 +1,4 @@
-//! What is picked of an NSEC chain.
+//! Picks records of an NSEC chain.
 ghost use Rattle.std.specs.Prelude.{◌≡◌, ◌↔◌, [], None, Some, IfOk, IsTrue};
 ghost use Rattle.domain_answer.specs.{Reading.reading, declared.answer.{Answer.TheVariants.OutsideZone, NameAnswer.TheVariants.Given}};
 ghost use Rattle.domain_denier.specs.Picked.{IsDenial};
@@ -13,20 +13,20 @@ use domain_octets::OutOfMemory;
 use std::alloc::Global;
 use std::marker::Model;
 
-/// What a zone answers to a question, and the records of its NSEC chain that prove it, by their
-/// places in the chain (`NsecChain::lend`).
+/// What a zone answers to a question, and the places of the records of its NSEC chain that prove it
+/// (`NsecChain::lend`).
 #[derive(Clone, Copy, Debug, PartialEq, Eq)]
 pub struct NsecDenial {
     /// What the zone says of the name and the type.
     pub answer: Answer,
-    /// The record that matches or covers the name. None where the name is outside the zone.
+    /// The record that matches or covers the name. None if the name is outside the zone.
     pub of_name: Option<usize>,
-    /// The record that matches or covers the wildcard below the closest encloser, where there is no
-    /// such name and the first record does not tell of that wildcard too.
+    /// The record that matches or covers the wildcard below the closest encloser, if the name does
+    /// not exist and the first record does not match or cover the wildcard too.
     pub of_wildcard: Option<usize>,
 }
 
-/// What no records say.
+/// Returns the answer that needs no records, and no records.
 fn judge_none<A: ToName, M: ToName>(apex: &A, name: &M, rtype: Rtype) -> NsecDenial
     ensures answer { result.answer ≡ reading (A.labels apex.now) [] (M.labels name.now) rtype }
     ensures name { result.of_name ≡ None }
@@ -40,15 +40,15 @@ fn judge_none<A: ToName, M: ToName>(apex: &A, name: &M, rtype: Rtype) -> NsecDen
     }
 }
 
-/// Whether it is said that a name is outside the zone.
+/// Returns whether the answer is that a name is outside the zone.
 fn is_outside(answer: NameAnswer) -> bool
     ensures { IsTrue result ↔ (answer ≡ Given OutsideZone) }
 {
     matches!(answer, NameAnswer::Given(Answer::OutsideZone))
 }
 
-/// What is picked of a chain, by its keys where there are some: the record of the name and, where
-/// that denies the name, the one of the wildcard below its closest encloser, unless it is the same.
+/// Picks records of a chain, by its keys if there are some: the record of the name and, if that
+/// denies the name, the record of the wildcard below its closest encloser, unless it is the same.
 fn pick<A: ToName, N: ToName, M: ToName>(
     apex: &A,
     chain: &NsecChain<'_, N>,
@@ -58,7 +58,7 @@ fn pick<A: ToName, N: ToName, M: ToName>(
 ) -> NsecDenial
     ensures { IsDenial chain.now (A.labels apex.now) (M.labels name.now) rtype result }
 {
-    // By these laws what the records say is what the zone says, of a type of 16 bits.
+    // By these laws what the records say is what the zone says, for a type of 16 bits.
     laws::readings_are_proved();
     chains_are_known();
     let _number = rtype.to_int();
@@ -102,19 +102,23 @@ fn pick<A: ToName, N: ToName, M: ToName>(
     }
 }
 
-/// The records of an NSEC chain that a server answers a question about a name and a type with (RFC
-/// 4035, section 3.1.3), and what they prove: two at most, without repeats.
+/// Returns the records of an NSEC chain with which a server answers a question about a name and a
+/// type (RFC 4035, section 3.1.3), and what they prove: at most two, without repeats.
 ///
-/// The first matches or covers the name. Where it proves that there is no such name, the second
-/// matches or covers the wildcard below the closest encloser, unless the first does that too. A
-/// response needs both where the answer is a name error or a wildcard without data; the first alone
-/// where it is no data, an unsigned delegation (`NoDs`; also in a referral, when it is asked for
-/// the zone cut), or was expanded from a wildcard; and none where it is positive or a redirection.
+/// The first record matches or covers the name. If it proves that the name does not exist, the
+/// second matches or covers the wildcard below the closest encloser, unless the first does that
+/// too. Put into the response:
+///
+/// - both, for a name error or a wildcard without data;
+/// - only the first, for no data, for an unsigned delegation (`NoDs`; also in a referral, if you
+///   ask for the zone cut), or if the answer was expanded from a wildcard;
+/// - none, for a positive answer or a redirection.
+///
 /// A name outside the zone has none.
 ///
-/// The chain is that of a zone, in which the names below an owner of a DNAME record are left out,
-/// or there are none (RFC 6672, section 2.4). Takes no memory, and compares some twenty names where
-/// the chain has a million. Who asks often makes an `NsecDenier`, and asks that.
+/// The chain must leave out the names below an owner of a DNAME record, or the zone must have none
+/// (RFC 6672, section 2.4). Does not allocate, and compares about twenty names for a chain of a
+/// million. For many questions, make an `NsecDenier`.
 pub fn deny_nsec<A: ToName, N: ToName, M: ToName>(
     apex: &A,
     chain: &NsecChain<'_, N>,
@@ -126,10 +130,10 @@ pub fn deny_nsec<A: ToName, N: ToName, M: ToName>(
     pick(apex, chain, None, name, rtype)
 }
 
-/// The NSEC chain of a zone, to be asked often. Contracts see the links of the chain. Beside the
-/// chain, which it borrows, it keeps 9 octets for each record: the first letters of its owner as a
-/// number, all in one list, so that a search touches no name, and the record that it ends at alone
-/// is compared with the name, where no other begins with as many letters.
+/// The NSEC chain of a zone, prepared for many questions. Contracts see the links of the chain. It
+/// borrows the chain, and keeps 9 octets for each record: the first letters of its owner as a
+/// number, all in one list. So a search reads no name; only the owner where it ends is compared
+/// with the name, if no other owner begins with the same letters.
 #[derive(Drop)]
 pub struct NsecDenier<'c, 'a, N: ToName> {
     chain: &'c NsecChain<'a, N>,
@@ -146,11 +150,11 @@ impl<'c, 'a, N: ToName> Model for NsecDenier<'c, 'a, N> {
 }
 
 impl<'c, 'a, N: ToName> NsecDenier<'c, 'a, N> {
-    /// The chain with a number for each owner.
+    /// Makes a number for each owner of the chain.
     ///
     /// # Errors
     ///
-    /// `OutOfMemory` where there was no memory for 9 octets a record.
+    /// `OutOfMemory` if there is no memory for 9 octets a record.
     pub fn new(alloc: Global, chain: &'c NsecChain<'a, N>) -> Result<Self, OutOfMemory>
         ensures { IfOk result (λ denier. denier ≡ chain.now) }
     {
@@ -158,15 +162,16 @@ impl<'c, 'a, N: ToName> NsecDenier<'c, 'a, N> {
         Ok(NsecDenier { chain, keys })
     }
 
-    /// The chain.
+    /// Returns the chain.
     pub fn chain(&self) -> &'c NsecChain<'a, N>
         ensures { result.now ≡ self.now }
     {
         self.chain
     }
 
-    /// The records of the chain that a server answers a question about a name and a type with, and
-    /// what they prove: those of `deny_nsec`, found by fewer comparisons of names. Takes no memory.
+    /// Returns the records of the chain with which a server answers a question about a name and a
+    /// type, and what they prove: those of `deny_nsec`, with fewer comparisons of names. Does not
+    /// allocate.
     pub fn deny<A: ToName, M: ToName>(&self, apex: &A, name: &M, rtype: Rtype) -> NsecDenial
         ensures { IsDenial self.now (A.labels apex.now) (M.labels name.now) rtype result }
     {

@@ -1,4 +1,4 @@
-//! What is picked of an NSEC3 chain.
+//! Picks records of an NSEC3 chain.
 ghost use Rattle.std.specs.Prelude.{◌≡◌, ◌<◌, ℕ, None, Some, Err, length, slice_get, IfOk, IfErr};
 ghost use Rattle.domain_names.specs.Name.{last_labels};
 ghost use Rattle.domain_nsec3.specs.{Chain.{HashedLink, hash_name, IsNoHash}, View.hash_by};
@@ -17,25 +17,25 @@ use domain_nsec3::{BorrowedNsec3, Nsec3Chain};
 use domain_octets::Octets;
 use std::alloc::Global;
 
-/// What a zone answers to a question, and the records of its NSEC3 chain that prove it, by their
-/// places in the chain (`Nsec3Chain::lend`). One record may have several of these parts: `places`
-/// gives each place once.
+/// What a zone answers to a question, and the places of the records of its NSEC3 chain that prove
+/// it (`Nsec3Chain::lend`). One record may have several of these roles: `places` returns each place
+/// once.
 #[derive(Clone, Copy, Debug, PartialEq, Eq)]
 pub struct Nsec3Denial {
     /// What the zone says of the name and the type.
     pub answer: Answer,
-    /// The record that matches the closest encloser, which may be the name itself. None where the
-    /// name is outside the zone, or the parent zone answers.
+    /// The record that matches the closest encloser, which may be the name itself. None if the name
+    /// is outside the zone, or the parent zone answers.
     pub of_encloser: Option<usize>,
-    /// The record that covers the next closer name, which is one label longer, where the answer
-    /// rests on that.
+    /// The record that covers the next closer name, which is one label longer, if the answer rests
+    /// on it.
     pub of_next_closer: Option<usize>,
-    /// The record that matches or covers the wildcard below the closest encloser, where the answer
-    /// rests on that.
+    /// The record that matches or covers the wildcard below the closest encloser, if the answer
+    /// rests on it.
     pub of_wildcard: Option<usize>,
 }
 
-/// The place, unless it is the other one.
+/// Returns the place, unless it is the other one.
 fn other_than(place: Option<usize>, other: Option<usize>) -> Option<usize>
     ensures same { place ≡ other → result ≡ None }
     ensures apart { ¬ (place ≡ other) → result ≡ place }
@@ -44,7 +44,7 @@ fn other_than(place: Option<usize>, other: Option<usize>) -> Option<usize>
 }
 
 impl Nsec3Denial {
-    /// The places of the records, each once: three at most.
+    /// Returns the places of the records, each once: at most three.
     pub fn places(&self) -> [Option<usize>; 3]
         ensures { ArePlaces self.now result }
     {
@@ -58,7 +58,7 @@ impl Nsec3Denial {
     }
 }
 
-/// An answer that rests on no record.
+/// Returns an answer that rests on no record.
 fn without_records(answer: Answer) -> Nsec3Denial
     ensures { result ≡ without_records answer }
 {
@@ -70,7 +70,7 @@ fn without_records(answer: Answer) -> Nsec3Denial
     }
 }
 
-/// The record at a place of the chain.
+/// Returns the record at a place of the chain.
 fn lend_at<'c, O: Octets>(chain: &'c Nsec3Chain<'_, O>, place: usize) -> BorrowedNsec3<'c>
     requires { place < length chain.now.links }
     ensures { slice_get chain.now.links place ≡ Some result }
@@ -81,7 +81,7 @@ fn lend_at<'c, O: Octets>(chain: &'c Nsec3Chain<'_, O>, place: usize) -> Borrowe
     listed
 }
 
-/// Whether the record at a place, where one is given, has the flag of opt-out.
+/// Returns whether the record at a place has the opt-out flag, or None without a place.
 fn opt_out_at<O: Octets>(chain: &Nsec3Chain<'_, O>, place: Option<usize>) -> Option<bool>
     requires { (at : ℕ) → place ≡ Some at → at < length chain.now.links }
     ensures { result ≡ flag_of (link_at chain.now.links place) }
@@ -89,8 +89,9 @@ fn opt_out_at<O: Octets>(chain: &Nsec3Chain<'_, O>, place: Option<usize>) -> Opt
     Some(lend_at(chain, place?).data().opt_out())
 }
 
-/// What the records of the closest encloser and of the next closer name say of a name, of one that
-/// does not exist no more than that; and the place of the second, where that rests on it.
+/// Returns what the records of the closest encloser and of the next closer name say of a name. Also
+/// returns the place of the second record, if the answer rests on it. No wildcard is looked up for
+/// a name that does not exist.
 fn first_answer<O: Octets, M: ToName>(
     chain: &Nsec3Chain<'_, O>,
     encloser: PlacedEncloser,
@@ -107,7 +108,7 @@ fn first_answer<O: Octets, M: ToName>(
     let listed = lend_at(chain, encloser.place);
     let types = listed.data().types();
     let apex = chain.nsec3param().owner();
-    // It is a zone cut where the record lists NS, and it is not the apex.
+    // It is a zone cut if the record lists NS, and it is not the apex.
     let at_cut = (encloser.count != apex.count_labels()) & types.contains(Rtype::NS);
     let cover = opt_out_at(chain, encloser.cover);
     let answer = encloser_answer(types, at_cut, encloser.count, cover, count, rtype);
@@ -117,8 +118,8 @@ fn first_answer<O: Octets, M: ToName>(
     (answer, encloser.cover)
 }
 
-/// What the record says that matches or covers the wildcard below the closest encloser, which has
-/// so many labels.
+/// Returns what the record that matches or covers the wildcard below the closest encloser says. The
+/// closest encloser has `count` labels.
 fn wildcard_told<O: Octets>(
     chain: &Nsec3Chain<'_, O>,
     count: usize,
@@ -137,8 +138,8 @@ fn wildcard_told<O: Octets>(
     wildcard_types_answer(types, types.contains(Rtype::NS), count, rtype)
 }
 
-/// What is said of a name that does not exist, whose closest encloser has so many labels, and the
-/// place of the record that says so: that of the wildcard below that one.
+/// Returns what is said of a name that does not exist, whose closest encloser has `count` labels,
+/// and the place of the record that says so: that of the wildcard below the closest encloser.
 fn wildcard_answer<O: Octets, M: ToName, H: Nsec3Hasher>(
     alloc: Global,
     chain: &Nsec3Chain<'_, O>,
@@ -167,38 +168,41 @@ fn wildcard_answer<O: Octets, M: ToName, H: Nsec3Hasher>(
     Ok((wildcard_told(chain, count, rtype, found), found.place))
 }
 
-/// The records of an NSEC3 chain that a server answers a question about a name and a type with (RFC
-/// 5155, section 7.2), and what they prove: three at most.
+/// Returns the records of an NSEC3 chain with which a server answers a question about a name and a
+/// type (RFC 5155, section 7.2), and what they prove: at most three.
 ///
-/// The first matches the closest encloser of the name, which may be the name itself. Where the
-/// answer rests on there being no name one label longer, the second covers that one, and where it
-/// rests on the wildcard below the closest encloser, the third matches or covers that.
+/// The first record matches the closest encloser of the name, which may be the name itself. If the
+/// answer rests on the absence of the name one label longer, the second record covers that name. If
+/// it rests on the wildcard below the closest encloser, the third record matches or covers the
+/// wildcard. Put into the response:
 ///
-/// A response needs all that are given where the answer is a name error or a wildcard without data
-/// (sections 7.2.2 and 7.2.5), no data or an unsigned delegation (`NoDs`; also in a referral, when
-/// it is asked for the zone cut), or where a delegation was left out of the chain (`MayBeUnsigned`,
-/// sections 7.2.4 and 7.2.7). It needs the second alone where it was expanded from a wildcard
-/// (section 7.2.6), and none where it is positive or a redirection. A name outside the zone has
-/// none.
+/// - all that are returned, for a name error or a wildcard without data (sections 7.2.2 and 7.2.5),
+///   for no data or an unsigned delegation (`NoDs`; also in a referral, if you ask for the zone
+///   cut), or if a delegation was left out of the chain (`MayBeUnsigned`, sections 7.2.4 and
+///   7.2.7);
+/// - only the second, if the answer was expanded from a wildcard (section 7.2.6);
+/// - none, for a positive answer or a redirection.
 ///
-/// Where the chain has the flag of opt-out, each name that does not exist is `MayBeUnsigned`,
-/// whatever the wildcard does, and that is not looked for. A response that says a name error or no
-/// data of a wildcard there needs its record too: asked of the wildcard, `deny_nsec3` gives that as
-/// the record of the closest encloser where the wildcard exists, else as that of the next closer
-/// name.
+/// A name outside the zone has none.
 ///
-/// The chain is that of a zone, in which the names below an owner of a DNAME record are left out,
-/// or there are none (RFC 6672, section 2.4); the apex and the parameters are those of its
-/// NSEC3PARAM record. Names are hashed from the name towards the apex, up to the first that a
-/// record matches, and then the wildcard where it is asked for: none twice, unless the next closer
-/// name is that wildcard, and none at all where the name is outside the zone or the parent answers.
-/// For each some twenty hashes are compared where the chain has a million. There is no limit of
-/// iterations. Takes no memory but for the hasher's answers, one at a time.
+/// If the chain has the opt-out flag, each name that does not exist is `MayBeUnsigned`, whatever
+/// the wildcard does, and the wildcard is not looked up. A response with a name error, or with no
+/// data of a wildcard, needs the wildcard's record too. To get it, call `deny_nsec3` for the
+/// wildcard: it is the record of the closest encloser if the wildcard exists, else that of the next
+/// closer name.
+///
+/// The chain must leave out the names below an owner of a DNAME record, or the zone must have none
+/// (RFC 6672, section 2.4). The apex and the parameters are those of the chain's NSEC3PARAM record.
+/// Names are hashed from the name towards the apex, up to the first that a record matches, and then
+/// the wildcard if it is needed. None is hashed twice, unless the next closer name is that
+/// wildcard. No name is hashed if the name is outside the zone or the parent answers. For each
+/// hash, about twenty hashes are compared in a chain of a million. There is no limit of iterations.
+/// Allocates nothing but the hasher's digests, one at a time.
 ///
 /// # Errors
 ///
-/// `Hasher` with the number of the hasher's refusal of a name that is asked for, and `OutOfMemory`
-/// where the hasher has none.
+/// `Hasher` with the number of the hasher's error for a name that is looked up, and `OutOfMemory`
+/// if the hasher has no memory.
 pub fn deny_nsec3<O: Octets, M: ToName, H: Nsec3Hasher>(
     alloc: Global,
     chain: &Nsec3Chain<'_, O>,
@@ -209,7 +213,7 @@ pub fn deny_nsec3<O: Octets, M: ToName, H: Nsec3Hasher>(
     ensures denied { IsHashedDenied (hash_by (H.answer hasher.now) chain.now.param.parameters)
         chain.now (M.labels name.now) rtype result }
 
-    // An error is the refusal of a name that is asked for, or want of memory.
+    // An error is the hasher's for a name that may be looked up, or out of memory.
     ensures err { IfErr result (IsNoHash (IsRefusedAbove chain.now.param.owner
         (hash_by (H.answer hasher.now) chain.now.param.parameters) (M.labels name.now))
         (H.takes_memory hasher.now)) }
@@ -221,7 +225,7 @@ pub fn deny_nsec3<O: Octets, M: ToName, H: Nsec3Hasher>(
     if is_at_parent(apex, name, rtype) {
         return Ok(without_records(Answer::AtParent));
     }
-    // By this law what the records say is what the zone says, of a type of 16 bits.
+    // By this law what the records say is what the zone says, for a type of 16 bits.
     hashed_chains_are_known();
     let _number = rtype.to_int();
     if chain.is_empty() {

@@ -1,4 +1,4 @@
-//! Keys of the owners of a chain, by which a search for a name begins near its end.
+//! Keys of the owners of a chain, which let a search for a name begin near its end.
 
 use domain_answer::wildcard_of;
 use domain_base::{MAX_NAME, ToName};
@@ -7,25 +7,25 @@ use domain_octets::OutOfMemory;
 use domain_records::owner_key;
 use std::alloc::Global;
 
-/// How many keys stand for one among the samples.
+/// The number of keys that one sample represents.
 const RUN: usize = 16;
 
-/// How a long key becomes a short one: what all keys below the apex begin with is left out, so that
-/// the 64 bits after that tell owners apart.
+/// The rule that shortens keys: the leading bits that all keys below the apex share are left out,
+/// so that the 64 bits after them distinguish owners.
 #[derive(Clone, Copy)]
 struct KeyScale {
-    /// How many labels, from the root, all owners share: those of the apex.
+    /// The number of labels, from the root, that all owners share: those of the apex.
     shared: usize,
     /// The least key of an owner below the apex.
     first: u128,
-    /// The greatest.
+    /// The greatest key of an owner below the apex.
     last: u128,
-    /// How many bits the two begin with alike.
+    /// The number of leading bits that `first` and `last` share.
     alike: u32,
 }
 
 impl KeyScale {
-    /// That of a chain.
+    /// Returns the scale of a chain.
     fn of<N: ToName>(chain: &NsecChain<'_, N>) -> Self {
         let shared = chain.owner(0).map_or(0, |apex| apex.count_labels());
         let key_at = |place| chain
@@ -41,8 +41,8 @@ impl KeyScale {
         }
     }
 
-    /// The short key of a name: 0 before all owners but the apex, and the greatest number after
-    /// them.
+    /// Returns the short key of a name: 0 before all owners except the apex, and the greatest
+    /// number after them.
     fn short<M: ToName>(&self, name: &M) -> u64 {
         let key = owner_key(name, self.shared);
         if key < self.first {
@@ -56,8 +56,8 @@ impl KeyScale {
     }
 }
 
-/// How many keys of a run are not above one. The run is gone over whole, so that its lines are
-/// waited for at once.
+/// Returns how many keys of a run are not above a key. Reads the whole run, so that its cache lines
+/// are loaded at once.
 fn count_in(run: &[u64], key: u64) -> usize {
     let mut count = 0usize;
     for other in run {
@@ -66,7 +66,7 @@ fn count_in(run: &[u64], key: u64) -> usize {
     count
 }
 
-/// How many keys are not above one, where so many runs begin with one that is not.
+/// Returns how many keys are not above a key, if `runs` runs begin with a key that is not above it.
 fn count_from(keys: &[u64], runs: usize, key: u64) -> usize {
     let start = runs.saturating_sub(1).saturating_mul(RUN);
     match keys.get(start..) {
@@ -78,7 +78,7 @@ fn count_from(keys: &[u64], runs: usize, key: u64) -> usize {
     }
 }
 
-/// The first of each run.
+/// Returns the first key of each run.
 fn samples_of(alloc: Global, keys: &[u64]) -> Result<Vec<u64>, OutOfMemory> {
     let mut samples = Vec::with_capacity(alloc, keys.len() / RUN + 1)?;
     for run in keys.chunks(RUN) {
@@ -87,14 +87,14 @@ fn samples_of(alloc: Global, keys: &[u64]) -> Result<Vec<u64>, OutOfMemory> {
     Ok(samples)
 }
 
-/// A number for each owner of a chain, in the order of its records. They lie in one list, so that a
-/// search among them touches no name. They are hints: what they suggest is tested.
+/// A number for each owner of a chain, in the order of its records. The numbers are in one list, so
+/// that a search among them reads no name. They are hints: each place that they suggest is tested.
 #[derive(Drop)]
 pub(crate) struct OwnerKeys {
     scale: KeyScale,
     keys: Vec<u64>,
     /// The first of each run of keys, and the first of each run of these. They stay in the caches
-    /// where the keys do not.
+    /// when the keys do not.
     samples: Vec<u64>,
     heads: Vec<u64>,
     /// The place of the wildcard right below the apex, which most names that do not exist need.
@@ -102,7 +102,7 @@ pub(crate) struct OwnerKeys {
 }
 
 impl OwnerKeys {
-    /// The keys of the owners of a chain: 9 octets a record.
+    /// Makes the keys of the owners of a chain: 9 octets a record.
     pub(crate) fn of<N: ToName>(
         alloc: Global,
         chain: &NsecChain<'_, N>,
@@ -133,14 +133,15 @@ impl OwnerKeys {
         Ok(made)
     }
 
-    /// How many keys are not above this one. The samples tell in which run they end.
+    /// Returns how many keys are not above this one. The samples say in which run these keys end.
     fn count_up_to(&self, key: u64) -> usize {
         let heads = self.heads.partition_point(|other| *other <= key);
         let samples = count_from(&self.samples, heads, key);
         count_from(&self.keys, samples, key)
     }
 
-    /// The last place with a key below that of a name, and the first with one above it.
+    /// Returns the last place with a key below that of a name, and the first place with a key above
+    /// it.
     pub(crate) fn places_of<M: ToName>(&self, name: &M) -> (usize, usize) {
         let key = self.scale.short(name);
         let below = key
@@ -149,8 +150,8 @@ impl OwnerKeys {
         (below.saturating_sub(1), self.count_up_to(key))
     }
 
-    /// The last place whose key is not above that of a name. Of the wildcard right below an
-    /// ancestor it is said how many labels that one has.
+    /// Returns the last place whose key is not above that of a name. If the name is the wildcard
+    /// right below an ancestor, `above` is the number of labels of that ancestor.
     pub(crate) fn place_near<M: ToName>(&self, name: &M, above: Option<usize>) -> Option<usize> {
         if above == Some(self.scale.shared) {
             return self.below_apex;

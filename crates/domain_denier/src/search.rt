@@ -1,4 +1,4 @@
-//! The record of a chain that says something of a name.
+//! The record of a chain that matches or covers a name.
 ghost use Rattle.std.specs.Prelude.{◌<◌, length, IfSome};
 ghost use Rattle.domain_denier.specs.Picked.{IsFound, AreEnds};
 
@@ -7,14 +7,14 @@ use domain_base::ToName;
 use domain_checker::{is_before, laws};
 use domain_nsec::NsecChain;
 
-/// Ends of a search that the keys of a chain suggest, or none in particular: the record that it
-/// looks for stands at the first or after it, and before the second.
+/// Returns bounds that the keys suggest for a search: the record is at the first or after it, and
+/// before the second. Without keys, the bounds are no limit.
 fn suggested_ends<M: ToName>(keys: Option<&OwnerKeys>, name: &M) -> (usize, usize) {
     keys.map_or((0, usize::MAX), |keys| keys.places_of(name))
 }
 
-/// A place that the keys of a chain suggest for a name. Of the wildcard right below an ancestor it
-/// is said how many labels that one has.
+/// Returns the place that the keys of a chain suggest for a name. If the name is the wildcard right
+/// below an ancestor, `above` is the number of labels of that ancestor.
 pub(crate) fn suggested<N: ToName, M: ToName>(
     chain: &NsecChain<'_, N>,
     keys: Option<&OwnerKeys>,
@@ -31,8 +31,8 @@ pub(crate) fn suggested<N: ToName, M: ToName>(
     }
 }
 
-/// The suggested ends where the owner at the low one is not after the name, and that at the high
-/// one is, and else those of the chain.
+/// Returns the suggested bounds if the owner at the low one is not after the name and that at the
+/// high one is. Otherwise returns the bounds of the chain.
 fn tested<N: ToName, M: ToName>(
     chain: &NsecChain<'_, N>,
     near: (usize, usize),
@@ -57,9 +57,9 @@ fn tested<N: ToName, M: ToName>(
     }
 }
 
-/// The place of the record that matches or covers a name: the last whose owner is not after it.
-/// Where there are keys, the search begins where they suggest, and is over after two comparisons of
-/// names where no two owners have one key.
+/// Returns the place of the record that matches or covers a name: the last whose owner is not after
+/// it. With keys, the search begins where they suggest; if no two owners have the same key, it ends
+/// after two comparisons of names.
 pub(crate) fn place_of<N: ToName, M: ToName>(
     chain: &NsecChain<'_, N>,
     keys: Option<&OwnerKeys>,

@@ -1,5 +1,5 @@
--- The chain of a zone whose records are given in any order, and what a verdict or an answer over its
--- records tells of them.
+-- The chain of a zone whose records are in any order, and what a verdict or an answer over records
+-- of the chain says of them.
 pub use Rattle.domain_any_order.specs.AnyOrder.{chain_error_of, AreMixed, HasNoSet, IsWholeHashedChain, View, seen, zone_seen, Sorts}
 pub use Rattle.domain_any_order.specs.AnyOrder.{OfZone, HasNone, IsChainOf, HasNoChain, IsHashedChainOf, HasNoHashedChain}
 use Rattle.std.specs.Prelude.{◌≡◌, ℕ, List}
@@ -11,7 +11,8 @@ use Rattle.domain_answer.specs.{Reading.proved_answer, ZoneAnswer.zone_answer, d
 
 module _ {N D : Type 0} (v : View N D) where
   module _ (given : List (Record N D)) (apex : Name) (config : GenerateNsecConfig) where
-    -- the verdict is what some records of the chain of the given records prove of a name and a type
+    -- the verdict is what some records of the chain of the given records prove about a name and a
+    -- type
     abbrev pub IsProvedOf : List Link → Name → ℕ → Verdict → Type 0
     IsProvedOf listed x t verdict = OfZone given
         (λ L. verdict ≡ proved_verdict L apex config.assume_dnskeys_will_be_added listed x t)

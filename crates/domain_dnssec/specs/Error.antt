@@ -1,4 +1,4 @@
--- What the errors of the library are to a program: their kind, without their texts.
+-- How the errors of the library convert to that of a program: their kind, without their texts.
 use Rattle.domain_names.specs.declared.error.{NameError.NameError, ScanError.ScanError}
 use Rattle.domain_names.specs.declared.error.NameError.TheVariants as name_error
 use Rattle.domain_names.specs.declared.error.ScanError.TheVariants as scan_error

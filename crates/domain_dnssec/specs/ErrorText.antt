@@ -1,4 +1,4 @@
--- What the error of this crate says.
+-- The texts of the error of this crate.
 use Rattle.std.specs.Prelude.{codes}
 use Rattle.domain_octets.specs.Octets.{Octets}
 use Rattle.domain_records.specs.Text.{signing_error_text}

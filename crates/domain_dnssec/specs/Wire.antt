@@ -1,4 +1,4 @@
--- Chains as octets.
+-- Chains in wire format.
 use Rattle.std.specs.{Prelude.{◌≡◌, ◌⊎◌, ◌++◌, ◌<◌, length, List}, List.{Contains, flat_map}}
 use Rattle.domain_octets.specs.Octets.{Octets}
 use Rattle.domain_nsec.specs.Chain.{Link}
@@ -16,10 +16,12 @@ nsec3s_octets made =
     flat_map (λ k. record_octets (nsec3_record k)) made.links
     ++ record_octets (param_record made.param)
 
--- the data of one of these records have more octets than the length of data can say
+-- the data of one of these records have more than 65,535 octets, the most that the length field can
+-- hold
 abbrev pub HasLong : {K : Type 0} → (K → RawRecord) → List K → Type 0
 HasLong {K} raw links = (k : K) × Contains links k × (65535 < length (raw k).«data».octets)
 
--- why records were not composed: there was no memory, or the data of one are so long
+-- the reason why records were not composed: there was no memory, or the data of a record are too
+-- long
 abbrev pub IsUncomposed : Type 0 → Error → Type 0
 IsUncomposed is_long error = (error ≡ OutOfMemory) ⊎ ((error ≡ LongRecordData) × is_long)

@@ -1,4 +1,4 @@
-//! How the denial of existence of a zone is made.
+//! How denial of existence is set up for a zone.
 ghost use Rattle.std.specs.Prelude.{◌≡◌, true, false, IfOk};
 
 use domain_nsec::GenerateNsecConfig;
@@ -6,21 +6,21 @@ use domain_nsec3::GenerateNsec3Config;
 use domain_octets::{Octets, OutOfMemory};
 use std::alloc::Global;
 
-/// How the denial of existence of a zone is made. `Sort` is what sorts the hashes of NSEC3.
+/// How denial of existence is set up for a zone. `Sort` is the sorter of the NSEC3 hashes.
 #[derive(Drop)]
 #[derive_where(Debug, PartialEq, Eq)]
 pub enum DenialConfig<O: Octets, Sort> {
-    /// The zone holds a chain already.
+    /// The zone has a chain already.
     AlreadyPresent,
-    /// By an NSEC chain.
+    /// Make an NSEC chain.
     Nsec(GenerateNsecConfig),
-    /// By an NSEC3 chain.
+    /// Make an NSEC3 chain.
     Nsec3(GenerateNsec3Config<O, Sort>),
 }
 
 impl<O: Octets, Sort> DenialConfig<O, Sort> {
-    /// Returns the configuration of an NSEC chain, as `GenerateNsecConfig::new` has it. Takes no
-    /// memory.
+    /// Returns the configuration of an NSEC chain, as `GenerateNsecConfig::new` makes it. Does not
+    /// allocate.
     pub fn default(_alloc: Global) -> Self
         ensures { result ≡ DenialConfig.Nsec (record {
           assume_dnskeys_will_be_added = true;
@@ -34,7 +34,7 @@ impl<O: Octets, Sort> DenialConfig<O, Sort> {
     ///
     /// # Errors
     ///
-    /// `OutOfMemory`.
+    /// `OutOfMemory` if there is no memory.
     pub fn clone(&self) -> Result<Self, OutOfMemory>
         ensures { IfOk result (λ copy. copy ≡ self.now) }
     {

@@ -17,19 +17,20 @@ use domain_rrsig::IllegalSignatureTime;
 use std::alloc::{AllocError, AllocFailed};
 use std::fmt;
 
-/// Why a program has no answer. Every error of these crates turns into it, so that `?` is enough.
+/// The error of a program that calls these crates. Each of their errors converts into it, so `?` is
+/// enough.
 ///
-/// It holds none of the texts of `ScanError` and `ParseError`: an error that holds a text cannot be
-/// passed on by `?` from a generic call, for which there is no proof then.
+/// It keeps no text of `ScanError` and `ParseError`: an error with a text cannot be returned by `?`
+/// from a generic call, because that has no proof.
 #[derive(Clone, Copy, Debug, PartialEq, Eq)]
 pub enum Error {
     /// There is no token where one is needed, or no entry in a line.
     EndOfEntry,
-    /// A text or a token is not of the form that is wanted, or ends too early, or goes on too long.
+    /// A text or a token does not have the expected form, or is too short or too long.
     Text,
     /// Octets end too early.
     ShortInput,
-    /// Octets are not of the form that is wanted.
+    /// Octets do not have the expected form.
     Form,
     /// Data are over 65,535 octets.
     LongRecordData,
@@ -39,20 +40,20 @@ pub enum Error {
     LongHash,
     /// The records are of more than one class.
     MixedClasses,
-    /// There is no chain, or a name is not hashed.
+    /// There is no chain, or a name was not hashed.
     Signing(SigningError),
-    /// A record was not put in: an equal one stands there.
+    /// A record was not inserted, because an equal one is already there.
     Present,
-    /// A text was not written.
+    /// Text was not written.
     Write,
-    /// Octets have no room.
+    /// Octets do not fit into a buffer.
     ShortBuf,
-    /// There was no memory.
+    /// There is no memory.
     OutOfMemory,
 }
 
 impl fmt::Display for Error {
-    // These texts stand once more in specs/ErrorText.antt: both change together.
+    // specs/ErrorText.antt repeats these texts: change both together.
     ghost output = { λ e. Some (error_text e) };
 
     fn fmt<W: fmt::Write>(&self, f: &mut fmt::Formatter<W>) -> fmt::Result {

@@ -1,4 +1,4 @@
-//! What callers may take from names, chains and sorting. A caller calls the law in its body.
+//! Laws of names, chains and sorting, for callers. To use a law, call it in a function body.
 ghost use Rattle.std.specs.Prelude.{◌≡◌, ℕ, All, false, true, List};
 ghost use Rattle.domain_record.specs.declared.record.Record.{Record};
 ghost use Rattle.domain_names.specs.Name.{Name};
@@ -24,9 +24,9 @@ pub use domain_nsec::laws::{chains_mean_the_zone, types_ignore_case};
 use domain_record::ZoneData;
 pub use domain_zone::laws::{covering_ignores_case, owners_never_descend};
 
-/// What a verdict over records of a chain tells of the records that the chain was made of, in
-/// whatever order they were handed in: what is proved of their zone, and of the whole chain, as it
-/// was made or borrowed, what the zone says.
+/// Relates a verdict on records of a chain to the records that the chain was made from, which may
+/// be in any order. The verdict is what the chain's records prove about the zone of those records.
+/// For the whole chain, as it was made or borrowed, it is what the zone says.
 pub fn verdicts_tell_of_records<N: ToName, D: ZoneData + CanonicalOrd>()
     ensures some { (given : List (Record N D)) (apex : Name) (config : GenerateNsecConfig)
         (links listed : List Link) (x : Name) (t : ℕ) (verdict : Verdict)
@@ -46,10 +46,10 @@ pub fn verdicts_tell_of_records<N: ToName, D: ZoneData + CanonicalOrd>()
     whole_chains_prove_all();
 }
 
-/// What a whole answer over records of a chain tells of the records that the chain was made of, in
-/// whatever order they were handed in: what is proved of their zone, and of the whole chain, as it
-/// was made or borrowed, what the zone says. The chain leaves out the names below an owner of a
-/// DNAME record.
+/// Relates a whole answer from records of a chain to the records that the chain was made from,
+/// which may be in any order. The answer is what the chain's records prove about the zone of those
+/// records. For the whole chain, as it was made or borrowed, it is what the zone says. The chain
+/// must leave out the names below an owner of a DNAME record.
 pub fn answers_tell_of_records<N: ToName, D: ZoneData + CanonicalOrd>()
     ensures some { (given : List (Record N D)) (apex : Name) (config : GenerateNsecConfig)
         (links listed : List Link) (x : Name) (t : ℕ) (answer : Answer)

@@ -1,19 +1,21 @@
-//! DNSSEC denial of existence: the chains of a zone (RFC 4034, section 4; RFC 4035, section 2.3;
-//! RFC 5155, section 7.1; RFC 9077), and what their records prove, under one name.
+//! DNSSEC denial of existence in one crate: the chains of a zone (RFC 4034, section 4; RFC 4035,
+//! section 2.3; RFC 5155, section 7.1; RFC 9077), and what their records prove.
 //!
-//! `generate_nsecs_of_records` and `generate_nsec3s_of_records` make the NSEC and the NSEC3 chain
-//! of a zone whose records come in any order. `generate_nsecs` and `generate_nsec3s` take them in
-//! canonical order, as `owner_rrs` of `SortedRecords` hands them out. `NsecChain::generate` and
-//! `Nsec3Chain::generate` give the same chains before their records are made: these lend them one
-//! by one, in less memory. `check_nsec` and `check_nsec3` say what records of a chain prove of a
-//! name and a type, `judge_nsec` and `judge_nsec3` what they answer as a whole: a name error, no
-//! data, a delegation, an alias, what a wildcard does; `deny_nsec` and `deny_nsec3` pick the
-//! records of a chain that a server answers with. `compose_nsecs` and `compose_nsec3s` write a
-//! chain as messages have its records; `read_record` reads a record from a message, with compressed
-//! names, and `scan_record` one from a line of a zone's text.
+//! - `generate_nsecs_of_records` and `generate_nsec3s_of_records` make the NSEC and the NSEC3 chain
+//!   of a zone whose records are in any order. `generate_nsecs` and `generate_nsec3s` take the
+//!   records in canonical order, as `owner_rrs` of `SortedRecords` returns them.
+//! - `NsecChain::generate` and `Nsec3Chain::generate` make the same chains, but lend their records
+//!   one by one, in less memory.
+//! - `check_nsec` and `check_nsec3` return what records of a chain prove about a name and a type.
+//! - `judge_nsec` and `judge_nsec3` return the whole answer: a name error, no data, a delegation,
+//!   an alias, or what a wildcard does.
+//! - `deny_nsec` and `deny_nsec3` pick the records of a chain with which a server answers.
+//! - `compose_nsecs` and `compose_nsec3s` write a chain in wire format.
+//! - `read_record` reads a record from a message, with compressed names, and `scan_record` one from
+//!   a line of a zone file.
 //!
-//! Nothing else has to be named by a crate that uses these: the types, calls and laws of the crates
-//! below are handed on, the data of records in `rdata`, and in `specs/` the definitions that their
+//! A crate that uses these needs no other: this crate re-exports the types, functions and laws of
+//! the crates below, the data of records in `rdata`, and in `specs/` the definitions that their
 //! clauses cite.
 #![tactic(auto)]
 

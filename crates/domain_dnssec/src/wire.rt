@@ -1,4 +1,4 @@
-//! Chains as messages have their records.
+//! Chains in wire format.
 ghost use Rattle.std.specs.Prelude.{◌≡◌, ◌<◌, ◌++◌, length, IfErr, OnOk};
 ghost use Rattle.domain_nsec.specs.Chain.{as_link};
 ghost use Rattle.domain_nsec3.specs.View.{as_param_record};
@@ -31,13 +31,14 @@ fn add_nsec(nsec: &BorrowedNsec<'_>, octets: &mut Vec<u8>) -> Result<(), Error>
     }
 }
 
-/// Appends the records of an NSEC chain, one after another, as a message has them, without
-/// compression (RFC 1035, section 3.2.1; RFC 4034, section 4.1).
+/// Appends the records of an NSEC chain, one after another, in wire format without compression (RFC
+/// 1035, section 3.2.1; RFC 4034, section 4.1).
 ///
 /// # Errors
 ///
-/// `OutOfMemory`; and `LongRecordData` where the data of a record have over 65,535 octets, which no
-/// record of a zone's chain has. Both leave what stood, and some records.
+/// `OutOfMemory` if there is no memory, and `LongRecordData` if the data of a record have over
+/// 65,535 octets, which no record of a zone's chain has. After an error, `octets` keeps what it
+/// had, and some of the records.
 pub fn compose_nsecs<N: ToName>(chain: &NsecChain<'_, N>, octets: &mut Vec<u8>) -> Result<(), Error>
     ensures ok { OnOk result (octets.new.items ≡ octets.old.items ++ nsecs_octets chain.now) }
     ensures err { IfErr result (IsUncomposed (HasLong nsec_record chain.now)) }
@@ -51,7 +52,7 @@ pub fn compose_nsecs<N: ToName>(chain: &NsecChain<'_, N>, octets: &mut Vec<u8>) 
     Ok(())
 }
 
-/// Appends an NSEC3 record, which is of class IN.
+/// Appends an NSEC3 record of class IN.
 fn add_nsec3(alloc: Global, nsec3: &BorrowedNsec3<'_>, octets: &mut Vec<u8>) -> Result<(), Error>
     ensures ok { OnOk result (octets.new.items
         ≡ octets.old.items ++ record_octets (nsec3_record nsec3.now)) }
@@ -86,14 +87,15 @@ fn add_param<O: Octets>(
     }
 }
 
-/// Appends the records of an NSEC3 chain, one after another, and its NSEC3PARAM record, as a
-/// message has them, without compression (RFC 1035, section 3.2.1; RFC 5155, sections 3.2 and 4.2).
-/// An owner is spelled in memory of `alloc`.
+/// Appends the records of an NSEC3 chain, one after another, and its NSEC3PARAM record, in wire
+/// format without compression (RFC 1035, section 3.2.1; RFC 5155, sections 3.2 and 4.2). Owners are
+/// encoded in memory of `alloc`.
 ///
 /// # Errors
 ///
-/// `OutOfMemory`; and `LongRecordData` where the data of a record have over 65,535 octets, which no
-/// record of a zone's chain has. Both leave what stood, and some records.
+/// `OutOfMemory` if there is no memory, and `LongRecordData` if the data of a record have over
+/// 65,535 octets, which no record of a zone's chain has. After an error, `octets` keeps what it
+/// had, and some of the records.
 pub fn compose_nsec3s<O: Octets>(
     alloc: Global,
     chain: &Nsec3Chain<'_, O>,

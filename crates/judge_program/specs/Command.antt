@@ -1,4 +1,4 @@
--- What the words after the program's name ask for.
+-- The command that the arguments of the program spell.
 use Rattle.std.specs.Prelude.{◌≡◌, ◌⊎◌, ℕ, [], ◌∷◌, codes, Option, Some, None}
 use Rattle.domain_base.specs.Scan.{IsNumber}
 use Rattle.domain_names.specs.Name.{Token, Tokens}
@@ -6,26 +6,26 @@ use Rattle.denial_program.specs.Command.{SpellQuestion}
 use Rattle.judge_program.specs.declared.{command.{ChainKind.{ChainKind, TheVariants.{Nsec, Nsec3}}, Command.Command}, shown.Shown.Shown}
 use Rattle.judge_program.specs.declared.shown.Shown.TheVariants.{Answer, Why, Records}
 
--- the limit of iterations where none is asked for
+-- the limit of iterations without an option
 abbrev pub usual_limit : ℕ
 usual_limit = 150
 
--- options that ask for no more than the answer, for the records that it rests on, or for those that
--- a server answers with
+-- options that ask for only the answer, for the records that it rests on, or for those with which a
+-- server answers
 abbrev pub ShownText : Tokens → Shown → Type 0
 ShownText [] shown = shown ≡ Answer
 ShownText (option ∷ []) shown =
     ((option ≡ codes "--why") × (shown ≡ Why)) ⊎ ((option ≡ codes "--records") × (shown ≡ Records))
 ShownText (option ∷ other ∷ more) shown = ⊥
 
--- options that may ask for a limit of iterations first
+-- options that may begin with a limit of iterations
 abbrev pub LimitText : Tokens → ℕ → Shown → Type 0
 LimitText [] limit shown = (limit ≡ usual_limit) × (shown ≡ Answer)
 LimitText (option ∷ []) limit shown = (limit ≡ usual_limit) × ShownText (option ∷ []) shown
 LimitText (option ∷ word ∷ more) limit shown =
     (option ≡ codes "--limit") × IsNumber 16 word limit × ShownText more shown
 
--- options that may ask for labels before that
+-- options that may begin with labels, before the limit
 abbrev pub LabelsText : Tokens → Option ℕ → ℕ → Shown → Type 0
 LabelsText options None limit shown = LimitText options limit shown
 LabelsText [] (Some n) limit shown = ⊥
@@ -33,13 +33,13 @@ LabelsText (option ∷ []) (Some n) limit shown = ⊥
 LabelsText (option ∷ word ∷ more) (Some n) limit shown =
     (option ≡ codes "--labels") × IsNumber 8 word n × LimitText more limit shown
 
--- a word names the kind of chain, and these options stand for it
+-- an argument names the kind of chain, and these options belong to it
 abbrev pub KindText : Token → Tokens → ChainKind → Shown → Type 0
 KindText word options Nsec shown = (word ≡ codes "nsec") × ShownText options shown
 KindText word options (Nsec3 asked) shown =
     (word ≡ codes "nsec3") × LabelsText options asked.labels asked.limit shown
 
--- the words ask what records of this kind of chain answer to the question
+-- the arguments spell the command for what records of this kind of chain answer to the question
 pub record Asks (words : Tokens) (command : Command) : Type 0 where
   pub kind_word : Token
   pub apex_word : Token

@@ -11,9 +11,9 @@ use Rattle.domain_answer.specs.{HashedReading.IsFirstOfRefusals, Judged.{IsExpan
 use Rattle.denial_program.specs.{Check.{AreNsecs, AreNsec3s, AreParams, HasNoParam, IsRefusedBy}, declared.command.Question.Question}
 use Rattle.denial_program.specs.declared.fault.DenialFault.{DenialFault, TheVariants.{Signing, Param, OutOfMemory}}
 
--- ---- What NSEC3 records are asked.
+-- ---- The question to NSEC3 records.
 
--- what is read of the records, by what the hasher answers
+-- the records as they are read, with the hasher's answers
 abbrev pub records_of : {H : Type 0} → (H → HasherAnswer) → Inquiry H → HashedRecords
 records_of answer asked =
     indexed_by (answer asked.hasher.now) asked.index.now
@@ -26,9 +26,9 @@ pub record IsNsecJudged (given : List RawRecord) (q : Question) (answer : Answer
   pub are : AreNsecs given links
   pub is : IsJudged links q.apex q.name q.rtype answer
 
--- what NSEC3 records answer with at most so many iterations, or the error in its place: of the name
--- and the type or, where there are labels, of a name whose records were expanded from the wildcard
--- right below its last so many labels
+-- what NSEC3 records answer with at most `limit` iterations, or the error in its place: for the
+-- name and the type or, with labels, for a name whose records were expanded from the wildcard right
+-- below its last n labels
 abbrev pub IsAsked : Option ℕ → HashedRecords → Question → ℕ → Result Answer Nsec3HashError → Type 0
 IsAsked None R q limit result = IsHashedJudged R q.name q.rtype limit result
 IsAsked (Some n) R q limit result = IsExpansionJudged R q.name n limit result
@@ -44,7 +44,7 @@ pub record IsNsec3Judged (hashes : HasherAnswer) (given : List RawRecord) (q : Q
   pub is : IsAsked asked.labels (links_with q.apex param.parameters hashes links) q asked.limit
       (Ok answer)
 
--- the hasher refuses a name that is asked for: this is the first refusal
+-- the hasher fails for a name that is looked up, and this is its first error
 abbrev pub IsRefusalAsked : Option ℕ → HashedRecords → Question → ℕ → ℕ → Type 0
 IsRefusalAsked None R q limit reason = IsFirstOfRefusals R q.name q.rtype reason
 IsRefusalAsked (Some n) R q limit reason = IsExpansionJudged R q.name n limit (Err (Hasher reason))
@@ -54,13 +54,13 @@ abbrev pub IsJudgeRefused : HasherAnswer → List RawRecord → Question → Nse
 IsJudgeRefused hashes given q asked =
     IsRefusedBy (λ R. IsRefusalAsked asked.labels R q asked.limit) hashes given q.apex
 
--- want of memory, or this refusal of the hasher
+-- out of memory, or this error of the hasher
 abbrev pub IsRefusedWith : (ℕ → Type 0) → DenialFault → Type 0
 IsRefusedWith is_first fault = (fault ≡ OutOfMemory)
     ⊎ ((n : ℕ) × (fault ≡ Signing (Nsec3HashingError (Hasher n))) × is_first n)
 
--- why NSEC3 records have none: the apex has no NSEC3PARAM record, or more than one; or the hasher
--- refuses
+-- the reason why NSEC3 records have no answer: the apex has no NSEC3PARAM record, or several, or
+-- the hasher fails
 abbrev pub IsNotNsec3Judged : HasherAnswer → List RawRecord → Question → Nsec3Options → DenialFault
     → Type 0
 IsNotNsec3Judged hashes given q asked (Signing e) = IsJudgeRefused hashes given q asked e

@@ -1,4 +1,4 @@
--- What a run answers to its words and lines, and when each of its faults comes.
+-- The output of a run for its arguments and lines, and when each of its faults is reported.
 use Rattle.std.specs.Prelude.{◌≡◌, List, ◌++◌, Option}
 use Rattle.domain_octets.specs.Octets.{Octets}
 use Rattle.domain_names.specs.Name.{Tokens}
@@ -12,8 +12,8 @@ use Rattle.judge_program.specs.{Command.{Asks, IsCommand, IsNoCommand}, Judged.{
 use Rattle.judge_program.specs.{Told.{below_text, nsec_tellings, AreNsec3Told, Tellings}, Text.first_line, declared.command.ChainKind.ChainKind}
 use Rattle.judge_program.specs.declared.{command.{ChainKind.TheVariants.{Nsec, Nsec3}, Nsec3Options.Nsec3Options}, shown.Shown.Shown}
 
--- the text is that of what the NSEC records answer to the question, on one line, and below it,
--- where they are asked for, of the records that it rests on, or of those that a server answers with
+-- the text has what the NSEC records answer to the question, on one line, and below it, on request,
+-- the records that the answer rests on, or those with which a server answers
 pub record IsNsecText (given : List RawRecord) (q : Question) (shown : Shown) (text : Octets)
     : Type 0 where
   pub answer : Answer
@@ -21,7 +21,7 @@ pub record IsNsecText (given : List RawRecord) (q : Question) (shown : Shown) (t
   pub is : text ≡ first_line shown q.name answer
       ++ below_text shown answer (nsec_tellings q.apex judged.links q.name answer)
 
--- of what the NSEC3 records answer
+-- the same for what the NSEC3 records answer
 pub record IsNsec3Text (hashes : HasherAnswer) (given : List RawRecord) (q : Question)
     (asked : Nsec3Options) (shown : Shown) (text : Octets) : Type 0 where
   pub answer : Answer
@@ -31,18 +31,18 @@ pub record IsNsec3Text (hashes : HasherAnswer) (given : List RawRecord) (q : Que
       (links_with q.apex judged.param.parameters hashes judged.links) q.name answer told
   pub is : text ≡ first_line shown q.name answer ++ below_text shown answer told
 
--- of what records of this kind of chain answer
+-- the same for what records of this kind of chain answer
 abbrev pub IsText : HasherAnswer → ChainKind → List RawRecord → Question → Shown → Octets → Type 0
 IsText hashes Nsec given q shown text = IsNsecText given q shown text
 IsText hashes (Nsec3 asked) given q shown text = IsNsec3Text hashes given q asked shown text
 
--- why they have no answer
+-- the reason why they have no answer
 abbrev pub HasNoText : HasherAnswer → ChainKind → List RawRecord → Question → DenialFault → Type 0
 HasNoText hashes Nsec given q fault = fault ≡ OutOfMemory
 HasNoText hashes (Nsec3 asked) given q fault = IsNotNsec3Judged hashes given q asked fault
 
--- the words are a command, the lines give records, and this is the text of their answer; they have
--- none, for this reason
+-- the arguments are a command, the lines give records, and this is the text of their answer; they
+-- have none, for this reason
 abbrev pub Judges : HasherAnswer → Tokens → List Octets → Octets → Type 0
 Judges hashes words lines text =
     IsOver Asks (λ command given. IsText hashes command.kind given command.question
@@ -53,8 +53,8 @@ GivesNoJudgement hashes words lines fault =
     IsOver Asks (λ command given. HasNoText hashes command.kind given command.question fault) words
     lines
 
--- a fault of usage says that the words are no command; any other but want of memory, that they are
--- one
+-- `Usage` says that the arguments are no command; any other fault, except out of memory, says that
+-- they are one
 abbrev pub TellsUsage : Tokens → DenialFault → Type 0
 TellsUsage words Usage = IsNoCommand words
 TellsUsage words (Unprepared e) = Unit {0}

@@ -1,4 +1,4 @@
--- The text of an answer about a name, and that of a fault.
+-- The printed form of an answer about a name, and of a fault.
 use Rattle.std.specs.Prelude.{ℕ, ◌++◌, codes}
 use Rattle.domain_octets.specs.Octets.{Octets}
 use Rattle.domain_names.specs.{Text.name_text, Name.{Name, last_labels}}
@@ -12,22 +12,22 @@ use Rattle.judge_program.specs.declared.shown.Shown.TheVariants as shows
 abbrev pub full_text : Name → Octets
 full_text name = name_text name ++ codes "."
 
--- the last so many labels of a name
+-- the last `count` labels of a name
 abbrev pub last_text : Name → ℕ → Octets
 last_text name count = full_text (last_labels count name)
 
--- the wildcard below these
+-- the wildcard below the last `count` labels of a name
 abbrev pub wildcard_text : Name → ℕ → Octets
 wildcard_text name count = full_text (wildcard_below (last_labels count name))
 
--- what a name is about that does not exist: its closest encloser has so many labels, and this is
--- told of the wildcard below it
+-- the line about a name that does not exist: its closest encloser has `count` labels, and `told` is
+-- said of the wildcard below it
 abbrev pub missing_text : Octets → Name → ℕ → Octets → Octets
 missing_text kind name count told =
     kind ++ codes ": closest encloser " ++ last_text name count ++ codes "; wildcard "
     ++ wildcard_text name count ++ codes " " ++ told
 
--- an answer about a name
+-- the printed form of an answer about a name
 abbrev pub answer_text : Name → Answer → Octets
 answer_text name answers.OutsideZone = codes "outside the zone"
 answer_text name answers.AtParent = codes "at the parent: DS of the apex"
@@ -52,12 +52,12 @@ answer_text name (answers.NoCloserName count) =
 answer_text name answers.TooManyIterations = codes "too many iterations"
 answer_text name answers.NotProven = codes "not proven"
 
--- the line of an answer, as a comment where the records that a server answers with follow
+-- the line of an answer, as a comment if the records with which a server answers follow
 abbrev pub first_line : Shown → Name → Answer → Octets
 first_line shows.Records name answer = codes "; " ++ answer_text name answer ++ codes "\n"
 first_line _ name answer = answer_text name answer ++ codes "\n"
 
--- a fault as this program prints it
+-- the printed form of a fault
 abbrev pub judge_fault_text : DenialFault → Octets
 judge_fault_text Usage =
     codes "usage: denial judge nsec APEX NAME TYPE [--why | --records] | denial judge nsec3 APEX "

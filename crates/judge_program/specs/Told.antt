@@ -1,5 +1,5 @@
--- The records that an answer rests on, which of them a response needs, and those that a server answers
--- with.
+-- The records that an answer rests on, which of them a response needs, and those with which a
+-- server answers.
 use Rattle.std.specs.Prelude.{ℕ, Bool, true, false, Option, Some, None, ◌≡◌, ◌+◌, ◌==◌, not, ◌&&◌, ◌||◌, List, [], ◌++◌, codes, length, nat_lt, bytes_eq}
 use Rattle.std.specs.{Prelude.{Result, Ok, Err, if◌then◌else◌}, Option.{is_some, option_map}, List.find}
 use Rattle.domain_answer.specs.{declared.answer.Answer.Answer, HashedReading.closer_name, ZoneAnswer.wildcard_below}
@@ -19,9 +19,9 @@ use Rattle.domain_answer.specs.declared.answer.Answer.TheVariants as answers
 use Rattle.judge_program.specs.declared.needs.Needs.TheVariants as needs
 use Rattle.judge_program.specs.declared.shown.Shown.TheVariants as shows
 
--- ---- Which records an answer rests on, and which of them a response needs.
+-- ---- The records that an answer rests on, and which of them a response needs.
 
--- an answer that rests on records
+-- the answer rests on records
 abbrev pub rests_on_records : Answer → Bool
 rests_on_records answers.OutsideZone = false
 rests_on_records answers.AtParent = false
@@ -29,8 +29,8 @@ rests_on_records answers.TooManyIterations = false
 rests_on_records answers.NotProven = false
 rests_on_records _ = true
 
--- an answer for which the wildcard below the closest encloser was asked for, which has so many
--- labels
+-- the number of labels of the closest encloser, if the wildcard below it was looked up for the
+-- answer
 abbrev pub wildcard_count : Answer → Option ℕ
 wildcard_count (answers.Wildcard n) = Some n
 wildcard_count (answers.WildcardAlias n) = Some n
@@ -39,13 +39,13 @@ wildcard_count (answers.NameError n) = Some n
 wildcard_count (answers.NoCloserName n) = Some n
 wildcard_count _ = None
 
--- an answer that rests on a cover of the next closer name: the wildcard was asked for behind that,
--- but where the cover has the flag of opt-out
+-- the answer rests on a cover of the next closer name: the cover has the opt-out flag, or the
+-- wildcard was looked up
 abbrev pub needs_next_closer : Answer → Bool
 needs_next_closer (answers.MayBeUnsigned n) = true
 needs_next_closer answer = is_some (wildcard_count answer)
 
--- which records a response needs of the name (RFC 4035, section 3.1.3; RFC 5155, section 7.2)
+-- the records of the name that a response needs (RFC 4035, section 3.1.3; RFC 5155, section 7.2)
 abbrev pub needs_of : Answer → Needs
 needs_of (answers.Referral n) = needs.Cut
 needs_of answers.NoDs = needs.Own
@@ -58,16 +58,16 @@ needs_of (answers.MayBeUnsigned n) = needs.Both
 needs_of (answers.NoCloserName n) = needs.Both
 needs_of _ = needs.Nothing
 
--- whether it needs that of the wildcard too
+-- whether the response also needs the record of the wildcard
 abbrev pub needs_wildcard : Answer → Bool
 needs_wildcard (answers.WildcardNoData n) = true
 needs_wildcard (answers.NameError n) = true
 needs_wildcard _ = false
 
--- ---- The records that an answer rests on, and those that a server answers with; a is the apex, x the
--- name.
+-- ---- The records that an answer rests on, and those with which a server answers; a is the apex, x
+-- the name.
 
--- the name that a record tells of
+-- the printed form of the name that a record matches or covers
 abbrev pub role_text : Role → Octets
 role_text Asked = codes "the name"
 role_text (ClosestEncloser name) = codes "the closest encloser " ++ full_text name
@@ -103,7 +103,7 @@ is_same (hashed k) (hashed l) =
     && bytes_eq (nsec3_record k).«data».octets (nsec3_record l).«data».octets
 is_same _ _ = false
 
--- a record that tells of a name, which it matches or else covers
+-- a record that matches or covers a name
 pub record Telling : Type 0 where
   pub role : Role
   pub matches : Bool
@@ -112,14 +112,14 @@ pub record Telling : Type 0 where
 abbrev pub telling_of : Part → Telling
 telling_of p = record { role = p.role; matches = p.matches; link = any_of p.listed }
 
--- the first match or, where there is none, the first cover
+-- the first match or, if there is none, the first cover
 abbrev pub finding : {K : Type 0} → (K → AnyLink) → Role → Option K → Option K → Option Telling
 finding any role (Some k) covering = Some (record { role = role; matches = true; link = any k })
 finding any role None (Some k) = Some (record { role = role; matches = false; link = any k })
 finding any role None None = None
 
--- what NSEC records tell of a name, and NSEC3 records of one with this hash; of one whose hash is
--- refused nothing is told
+-- what NSEC records say of a name, and what NSEC3 records say of a name with this hash; nothing if
+-- the hasher fails for it
 abbrev pub nsec_told : Name → List Link → Role → Name → Option Telling
 nsec_told a listed role x =
     finding plain role (find (is_match a x) listed) (find (is_cover a x) listed)
@@ -131,7 +131,7 @@ hash_told R role (Err n) = None
 abbrev pub nsec3_told : HashedRecords → Role → Name → Option Telling
 nsec3_told R role x = hash_told R role (hash_name R.hash x)
 
--- the wildcard below the last n labels of x, which has more of them
+-- the wildcard below the last n labels of x, if x has more than n
 abbrev pub wildcard_asked : Name → Option ℕ → Option (Role × Name)
 wildcard_asked x None = None
 wildcard_asked x (Some n) =
@@ -142,7 +142,7 @@ abbrev pub told_where : (Role → Name → Option Telling) → Option (Role × N
 told_where told None = None
 told_where told (Some (role, name)) = told role name
 
--- what is told of the name or its closest encloser, of the next closer name, and of the wildcard
+-- what is said of the name or its closest encloser, of the next closer name, and of the wildcard
 pub record Tellings : Type 0 where
   pub matched : Option Telling
   pub closer : Option Telling
@@ -158,7 +158,7 @@ tellings_of p =
       param = option_map (λ k. as_param_record (λ n. n) k.now) p.param;
     }
 
--- of NSEC records, where the answer rests on some
+-- what NSEC records say, if the answer rests on some
 abbrev pub nsec_tellings : Name → List Link → Name → Answer → Option Tellings
 nsec_tellings a listed x answer =
     if rests_on_records answer
@@ -170,7 +170,7 @@ nsec_tellings a listed x answer =
     })
     else None
 
--- the name that is matched: x itself, or its closest encloser, which has n labels
+-- the role of the matched name: x itself, or its closest encloser, which has n labels
 abbrev pub encloser_role : Name → ℕ → Role
 encloser_role x n = if n == length x then Asked else ClosestEncloser (last_labels n x)
 
@@ -179,15 +179,16 @@ encloser_told x None = None
 encloser_told x (Some e) =
     Some (record { role = encloser_role x e.count; matches = true; link = hashed e.link })
 
--- the next closer name, where the answer needs it
+-- what is said of the next closer name, if the answer needs it
 abbrev pub closer_told : Name → Answer → Option Encloser → Option Telling
 closer_told x answer None = None
 closer_told x answer (Some e) =
     if needs_next_closer answer
     then finding hashed (NextCloser (last_labels (e.count + 1) x)) None e.cover else None
 
--- of NSEC3 records, where this was found of x and its ancestors; and, where the signatures of data
--- tell so many labels, of the next closer name alone, which is one label longer
+-- what NSEC3 records say, given what was found of x and its ancestors; and, if n is the Labels
+-- field of the signatures of data, what they say of only the next closer name, which is one label
+-- longer
 abbrev pub nsec3_tellings : ParamRecord → HashedRecords → Name → Answer → Option Encloser → Tellings
 nsec3_tellings param R x answer found =
     record {
@@ -211,7 +212,7 @@ AreWhole param R x answer told =
     (found : Option Encloser) × IsFoundEncloser R x found
     × (told ≡ Some (nsec3_tellings param R x answer found))
 
--- what is told where this is to be shown: nothing where the answer rests on no records
+-- what is to be printed: nothing if the answer rests on no records, or only the answer is printed
 abbrev pub AreNsec3Told : Bool → Shown → Option ℕ → ParamRecord → HashedRecords → Name → Answer
     → Option Tellings → Type 0
 AreNsec3Told false shown labels param R x answer told = told ≡ None
@@ -222,15 +223,15 @@ AreNsec3Told true shown (Some n) param R x answer told =
 
 -- ---- lines
 
--- how a record tells of a name
+-- the line on how a record matches or covers a name
 abbrev pub told_line : Option Telling → Octets
 told_line None = []
 told_line (Some t) =
     (if t.matches then codes "matches " else codes "covers ")
     ++ role_text t.role ++ codes ": " ++ line_of t.link ++ codes "\n"
 
--- a response needs this record of the name or its closest encloser: of a zone cut unless it lists
--- DS (RFC 4035, section 3.1.4.1; RFC 5155, section 7.2.7)
+-- a response needs this record of the name or its closest encloser: that of a zone cut only if it
+-- does not list DS (RFC 4035, section 3.1.4.1; RFC 5155, section 7.2.7)
 abbrev pub is_needed : Needs → AnyLink → Bool
 is_needed needs.Nothing k = false
 is_needed needs.Cut k = not (contains_type (bits_of k) ds)
@@ -259,14 +260,14 @@ abbrev pub param_line : Option ParamRecord → Octets
 param_line None = []
 param_line (Some param) = nsec3param_line param ++ codes "\n"
 
--- the lines of these records, each once, and of the NSEC3PARAM record, where there are any
+-- the lines of these records, each once, and then, if there are any, of the NSEC3PARAM record
 abbrev pub records_text : Option ParamRecord → Option AnyLink → Option AnyLink → Option AnyLink
     → Octets
 records_text param m c w =
     line_once None None m ++ line_once None m c ++ line_once m c w
     ++ (if is_some m || is_some c || is_some w then param_line param else [])
 
--- what follows the line of an answer
+-- the text below the line of an answer
 abbrev pub below_text : Shown → Answer → Option Tellings → Octets
 below_text shown answer None = []
 below_text shows.Answer answer (Some t) = []
@@ -276,7 +277,7 @@ below_text shows.Records answer (Some t) =
     records_text t.param (matched_part (needs_of answer) t.matched) (listed_of true t.closer)
     (listed_of (needs_wildcard answer) t.wildcard)
 
--- a name is refused on the way to the closest encloser; none where there are labels
+-- the hasher fails for a name on the way to the closest encloser; with labels, it fails for none
 abbrev pub IsRefusalBelow : Option ℕ → HashedRecords → Name → ℕ → Type 0
 IsRefusalBelow None R x reason = IsFirstRefusal R x reason
 IsRefusalBelow (Some n) R x reason = ⊥

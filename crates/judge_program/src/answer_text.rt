@@ -1,4 +1,4 @@
-//! Answers as they are printed.
+//! Prints answers.
 ghost use Rattle.std.specs.Prelude.{◌≡◌, ◌++◌, Some, codes};
 ghost use Rattle.domain_names.specs.Name.{last_labels};
 ghost use Rattle.domain_answer.specs.ZoneAnswer.{wildcard_below};
@@ -10,7 +10,7 @@ use domain_base::{ParsedName, ToName};
 use std::fmt;
 use std::fmt::Display;
 
-/// The wildcard right below a name, with its last dot.
+/// The wildcard right below a name, which prints with its last dot.
 #[derive(Clone, Copy)]
 pub struct WildcardText<'p, 'a> {
     /// The name.
@@ -29,7 +29,7 @@ impl fmt::Display for WildcardText<'_, '_> {
     }
 }
 
-/// What is told of a name that does not exist.
+/// A line about a name that does not exist.
 #[derive(Drop)]
 struct MissingText<'a> {
     kind: &'static str,
@@ -57,7 +57,7 @@ impl fmt::Display for MissingText<'_> {
     }
 }
 
-/// An answer about a name, as it is printed.
+/// An answer about a name, which prints as the program prints it.
 #[derive(Clone, Copy)]
 pub struct AnswerText<'a> {
     /// The name.
@@ -67,7 +67,8 @@ pub struct AnswerText<'a> {
 }
 
 impl<'a> AnswerText<'a> {
-    /// What is told of the name, which does not exist; its closest encloser has so many labels.
+    /// Returns the line about the name, which does not exist, and whose closest encloser has
+    /// `count` labels.
     fn told(&self, kind: &'static str, count: usize, told: &'static str) -> MissingText<'a>
         ensures kind { result.kind.now ≡ kind.now }
         ensures encloser { result.encloser ≡ last_labels count self.now.name.now }

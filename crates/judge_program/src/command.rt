@@ -1,4 +1,4 @@
-//! What the words after the program's name ask for.
+//! The command that the arguments of the program spell.
 ghost use Rattle.std.specs.Prelude.{◌≡◌, ◌⊎◌, ◌∷◌, [], ℕ, None, IfErr, IfNone, IfOk, IfSome, map, string_bytes};
 ghost use Rattle.denial_program.specs.declared.fault.DenialFault.TheVariants.{OutOfMemory};
 ghost use Rattle.judge_program.specs.Command.{Asks, IsNoCommand, KindText, LabelsText, LimitText, ShownText};
@@ -11,41 +11,41 @@ use denial_program::{DenialFault, Question, question_of};
 use domain_base::FromToken;
 use std::alloc::Global;
 
-/// How many additional iterations a hash may take where no option says another number. A validator
-/// chooses its limit (RFC 9276, section 3.2); common resolvers took 150, before they went lower.
+/// The limit of additional iterations of a hash, unless an option sets another. A validator chooses
+/// its limit (RFC 9276, section 3.2); common resolvers took 150, before they went lower.
 const USUAL_LIMIT: u16 = 150;
 
-/// How NSEC3 records are judged.
+/// The options of judging NSEC3 records.
 #[derive(Clone, Copy, Debug, PartialEq, Eq)]
 pub struct Nsec3Options {
-    /// For a name whose records were expanded from a wildcard: how many labels the signatures of
-    /// these tell in their field Labels (RFC 4034, section 3.1.3).
+    /// For a name whose records were expanded from a wildcard: the Labels field of the signatures
+    /// of these (RFC 4034, section 3.1.3).
     pub labels: Option<u8>,
-    /// How many additional iterations a hash may take.
+    /// The limit of additional iterations of a hash.
     pub limit: u16,
 }
 
-/// Of which kind of chain the records are.
+/// The kind of chain that the records are from.
 #[derive(Clone, Copy, Debug, PartialEq, Eq)]
 pub enum ChainKind {
     /// NSEC.
     Nsec,
-    /// NSEC3, judged in this way.
+    /// NSEC3, with these options.
     Nsec3(Nsec3Options),
 }
 
-/// What the words ask for.
+/// A command.
 #[derive(Drop)]
 pub struct Command {
-    /// Of which kind of chain the records are.
+    /// The kind of chain that the records are from.
     pub kind: ChainKind,
-    /// What they are asked.
+    /// The question to the records.
     pub question: Question,
-    /// What is printed.
+    /// What to print.
     pub shown: Shown,
 }
 
-/// What the options ask to be printed.
+/// Returns what the options ask to print.
 #[tactic(auto, using(std::proofs::lemmas::Grind::common_steps, denial_program::proofs::RunLemmas::same_text))]
 fn shown_of(options: &[String]) -> Option<Shown>
     ensures some { IfSome result (ShownText (map string_bytes options.now)) }
@@ -60,7 +60,7 @@ fn shown_of(options: &[String]) -> Option<Shown>
     }
 }
 
-/// The limit of iterations that the options ask for, and what is printed.
+/// Returns the limit of iterations that the options set, and what to print.
 #[tactic(auto, using(std::proofs::lemmas::Grind::common_steps, denial_program::proofs::RunLemmas::same_text, crate::proofs::RunLemmas::no_limit))]
 fn limit_of(options: &[String]) -> Option<(u16, Shown)>
     ensures some { IfSome result (λ p. LimitText (map string_bytes options.now) p.0 p.1) }
@@ -77,7 +77,7 @@ fn limit_of(options: &[String]) -> Option<(u16, Shown)>
     }
 }
 
-/// How the options ask for NSEC3 records to be judged, and what is printed.
+/// Returns how the options ask to judge NSEC3 records, and what to print.
 #[tactic(auto, using(std::proofs::lemmas::Grind::common_steps, denial_program::proofs::RunLemmas::same_text))]
 fn nsec3_options_of(options: &[String]) -> Option<(Nsec3Options, Shown)>
     ensures some { IfSome result (λ p.
@@ -100,8 +100,7 @@ fn nsec3_options_of(options: &[String]) -> Option<(Nsec3Options, Shown)>
     }
 }
 
-/// The kind of chain that a first word names, with the options that stand for it, and what is
-/// printed.
+/// Returns the kind of chain that the first argument names, with its options, and what to print.
 fn kind_of(word: &str, options: &[String]) -> Option<(ChainKind, Shown)>
     ensures some { IfSome result (λ p. KindText word.now (map string_bytes options.now) p.0 p.1) }
     ensures none { IfNone result ((kind : ChainKind) (shown : Shown)
@@ -117,11 +116,11 @@ fn kind_of(word: &str, options: &[String]) -> Option<(ChainKind, Shown)>
     }
 }
 
-/// What the words after the program's name ask for.
+/// Returns the command that the arguments of the program spell.
 ///
 /// # Errors
 ///
-/// `Usage` exactly where they are no command, and `OutOfMemory`.
+/// `Usage` if and only if they are no command, and `OutOfMemory` if there is no memory.
 pub fn command_of(alloc: Global, words: &[String]) -> Result<Command, DenialFault>
     ensures ok { IfOk result (Asks (map string_bytes words.now)) }
     ensures err { IfErr result (λ e.

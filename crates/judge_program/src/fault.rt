@@ -5,8 +5,8 @@ ghost use Rattle.judge_program.specs.Text.{judge_fault_text};
 use denial_program::DenialFault;
 use std::fmt;
 
-/// Why a run of the program stops, with the text that the program prints on standard error: that of
-/// the fault, but for words that are no command.
+/// The reason why a run of the program stops, with the text that the program prints on standard
+/// error: that of the fault, except for arguments that are no command.
 #[derive(Clone, Copy, Debug, PartialEq, Eq)]
 pub struct JudgeFault {
     fault: DenialFault,
@@ -28,7 +28,7 @@ impl fmt::Display for JudgeFault {
     ghost output = { λ e. Some (judge_fault_text e.fault) };
 
     fn fmt<W: fmt::Write>(&self, f: &mut fmt::Formatter<W>) -> fmt::Result {
-        // The other half of each text stands in `judge_fault_text`, `specs/Text.antt`.
+        // `judge_fault_text` in `specs/Text.antt` repeats these texts: change both together.
         match self.fault {
             DenialFault::Usage => f.write_str(USAGE),
             fault => write!(f, "{fault}"),

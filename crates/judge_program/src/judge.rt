@@ -1,4 +1,4 @@
-//! What records of a chain that were read answer to a question.
+//! What the records of a chain that were read answer to a question.
 ghost use Rattle.std.specs.{Prelude.{◌≡◌, ◌++◌, IfErr, OnOk, option_map}, Io.KnownBytes.Appends};
 ghost use Rattle.denial_program.specs.{Fault.IsBeforeOutput, Run.{IsUnwritten, IsWritten}};
 ghost use Rattle.denial_program.specs.declared.fault.DenialFault.TheVariants.{OutOfMemory as Memory};
@@ -19,7 +19,7 @@ use std::alloc::Global;
 use std::io;
 use std::io::Write;
 
-/// Writes an answer about a name, and what is asked for below it. Hands all on to the device.
+/// Writes an answer about a name, and the records to print below it, and flushes the output.
 #[tactic(auto, using(denial_program::proofs::RunLemmas::appends_more))]
 fn write_answer<W: Write>(
     name: &ZoneName,
@@ -99,9 +99,10 @@ fn judge_nsec3s<'a, W: Write, H: Nsec3Hasher>(
 ///
 /// # Errors
 ///
-/// The first that stands: for NSEC3 `Param` where the apex has not exactly one NSEC3PARAM record,
-/// and `Signing` where the hasher refuses; `Write` where the output could not be written; and
-/// `OutOfMemory`. Nothing is written before `Write`.
+/// The first that applies: for NSEC3 `Param` if the apex does not have exactly one NSEC3PARAM
+/// record, and `Signing` if the hasher fails; `Write` if the output could not be written; and
+/// `OutOfMemory` if there is no memory. For other errors than `Write` and `OutOfMemory`, nothing is
+/// written.
 pub fn write_judged<'a, W: Write, H: Nsec3Hasher>(
     alloc: Global,
     command: &Command,

@@ -1,10 +1,10 @@
-//! All that the program `denial_judge` is made of: records of an NSEC or NSEC3 chain are read, one
-//! a line, and what they prove as a whole answer to a question is written, on one line; below it,
-//! where they are asked for, the records that the answer rests on, or those that a server answers
-//! with.
+//! The whole program `denial_judge`. It reads records of an NSEC or NSEC3 chain, one a line, and
+//! writes on one line what they prove as a whole answer to a question. Below it, on request, it
+//! writes the records that the answer rests on, or those with which a server answers.
 //!
 //! `run_judge` is generic over its reader, its writer and its hasher, as `run_denial` is. It reads
-//! lines as that does, and has its faults; `JudgeFault` is such a fault as this program prints it.
+//! lines as that does, and has the same faults; `JudgeFault` is such a fault as this program prints
+//! it.
 #![tactic(auto)]
 
 mod answer_text;

@@ -1,11 +1,11 @@
-//! Which records an answer rests on, and which of them a server answers with.
+//! The records that an answer rests on, and those with which a server answers.
 ghost use Rattle.std.specs.Prelude.{◌≡◌};
 ghost use Rattle.judge_program.specs.Told.{needs_next_closer, needs_of, needs_wildcard, rests_on_records};
 ghost use Rattle.judge_program.specs.Told.{wildcard_count};
 
 use domain_answer::Answer;
 
-/// Whether an answer rests on records.
+/// Returns whether an answer rests on records.
 pub fn rests_on_records(answer: Answer) -> bool
     ensures { result ≡ rests_on_records answer }
 {
@@ -16,7 +16,8 @@ pub fn rests_on_records(answer: Answer) -> bool
     }
 }
 
-/// How many labels the closest encloser has, where the wildcard below it was asked for.
+/// Returns how many labels the closest encloser has if the wildcard below it was looked up, or
+/// None.
 pub fn wildcard_count(answer: Answer) -> Option<usize>
     ensures { result ≡ wildcard_count answer }
 {
@@ -30,7 +31,7 @@ pub fn wildcard_count(answer: Answer) -> Option<usize>
     }
 }
 
-/// Whether an answer rests on a cover of the next closer name.
+/// Returns whether an answer rests on a cover of the next closer name.
 pub fn needs_next_closer(answer: Answer) -> bool
     ensures { result ≡ needs_next_closer answer }
 {
@@ -40,23 +41,24 @@ pub fn needs_next_closer(answer: Answer) -> bool
     }
 }
 
-/// Which records of a chain a response needs for a name (RFC 4035, section 3.1.3; RFC 5155, section
-/// 7.2). Beside them it may need that of the wildcard.
+/// The records of a chain that a response needs for a name (RFC 4035, section 3.1.3; RFC 5155,
+/// section 7.2). It may also need the record of the wildcard.
 #[derive(Clone, Copy, Debug, PartialEq, Eq)]
 pub enum Needs {
-    /// None: the response has data, or it is none of this zone.
+    /// None: the response has data, or is not from this zone.
     Nothing,
-    /// That of the zone cut, where it does not list DS.
+    /// The record of the zone cut, if it does not list DS.
     Cut,
-    /// That of the name.
+    /// The record of the name.
     Own,
-    /// That which shows that there is no such name; with NSEC3 that of the next closer name.
+    /// The record that denies the name; with NSEC3, that of the next closer name.
     Closer,
-    /// That which shows it; with NSEC3 those of the closest encloser and of the next closer name.
+    /// The record that denies the name; with NSEC3, those of the closest encloser and of the next
+    /// closer name.
     Both,
 }
 
-/// Which records a response with this answer needs.
+/// Returns the records that a response with this answer needs.
 pub fn needs_of(answer: Answer) -> Needs
     ensures { result ≡ needs_of answer }
 {
@@ -72,7 +74,7 @@ pub fn needs_of(answer: Answer) -> Needs
     }
 }
 
-/// Whether it needs the record of the wildcard too.
+/// Returns whether a response with this answer also needs the record of the wildcard.
 pub fn needs_wildcard(answer: Answer) -> bool
     ensures { result ≡ needs_wildcard answer }
 {

@@ -1,4 +1,5 @@
-//! What NSEC3 records answer to a question, and what they tell of the names that this rests on.
+//! What NSEC3 records answer to a question, and what they say of the names that the answer rests
+//! on.
 ghost use Rattle.std.specs.{Prelude.{◌≡◌, None, Some, Ok, IfErr, IfOk}, Option.option_map};
 ghost use Rattle.domain_nsec3.specs.View.{as_hashed_link, as_param_record};
 ghost use Rattle.domain_checker.specs.{HashedReading.encloser_of, HashedVerdict.IsFirstRefusal};
@@ -23,25 +24,25 @@ use domain_checker::{Nsec3Encloser, Nsec3Found, Nsec3Index};
 use domain_hasher::{Nsec3HashError, Nsec3Hasher};
 use std::alloc::Global;
 
-/// What they tell of the closest encloser of a name.
+/// What NSEC3 records say of the closest encloser of a name.
 type Encloser<'r, 'a> = Nsec3Encloser<'r, &'a [u8], ParsedName<'a>>;
 
-/// NSEC3 records, what they are asked, and the hasher.
+/// A question to NSEC3 records, with the records and the hasher.
 #[derive(Clone, Copy)]
 pub struct Inquiry<'r, 'a, H: Nsec3Hasher> {
     /// The allocator.
     pub alloc: Global,
     /// The question.
     pub question: &'r Question,
-    /// The record of the parameters.
+    /// The NSEC3PARAM record.
     pub nsec3param: &'r ReadNsec3param<'a>,
-    /// The records, which are read once.
+    /// The index of the records.
     pub index: &'r Nsec3Index<'r, &'a [u8], ParsedName<'a>>,
     /// The hasher.
     pub hasher: &'r H,
 }
 
-/// A record that covers a name, if one does.
+/// Returns the part of a record that covers a name, if one does.
 fn cover_part<'r, 'a>(role: Role<'r>, cover: Option<&'r ReadNsec3<'a>>) -> Option<Part<'r, 'a>>
     ensures { option_map telling_of result ≡ finding hashed role.entry None
         (option_map (λ k. as_hashed_link (λ n. n) k.now) cover.entry) }
@@ -54,8 +55,8 @@ fn cover_part<'r, 'a>(role: Role<'r>, cover: Option<&'r ReadNsec3<'a>>) -> Optio
     })
 }
 
-/// The name that is matched: the one that was asked for, or its closest encloser, which has so many
-/// labels.
+/// Returns the name that is matched: the one in the question, or its closest encloser, which has
+/// `count` labels.
 fn encloser_role(name: &ZoneName, count: usize) -> Role<'_>
     ensures { result ≡ encloser_role name.now count }
 {
@@ -65,7 +66,7 @@ fn encloser_role(name: &ZoneName, count: usize) -> Role<'_>
     Role::Encloser(name.last_labels(count))
 }
 
-/// What was found of the closest encloser of a name.
+/// Returns what was found of the closest encloser of a name.
 fn encloser_part<'r, 'a>(
     name: &'r ZoneName,
     found: &Option<Encloser<'r, 'a>>,
@@ -83,7 +84,7 @@ fn encloser_part<'r, 'a>(
     })
 }
 
-/// What was found of the next closer name, where the answer rests on that.
+/// Returns what was found of the next closer name, if the answer rests on that.
 fn closer_part<'r, 'a>(
     name: &'r ZoneName,
     answer: Answer,
@@ -103,12 +104,12 @@ fn closer_part<'r, 'a>(
 }
 
 impl<'r, 'a, H: Nsec3Hasher> Inquiry<'r, 'a, H> {
-    /// The answer.
+    /// Returns the answer.
     ///
     /// # Errors
     ///
-    /// `Signing` where the hasher refuses a name that is asked for, with labels the next closer
-    /// name, which has one label more; and `OutOfMemory`.
+    /// `Signing` if the hasher fails for a name that is looked up (with labels, only the next
+    /// closer name, which has one label more), and `OutOfMemory` if there is no memory.
     pub fn answer(&self, asked: Nsec3Options) -> Result<Answer, DenialFault>
         ensures ok { IfOk result (λ answer. IsAsked asked.labels (records_of H.answer self.now)
             self.now.question.now asked.limit (Ok answer)) }
@@ -124,7 +125,7 @@ impl<'r, 'a, H: Nsec3Hasher> Inquiry<'r, 'a, H> {
         Ok(judge_nsec3_index_expansion(alloc, index, name, labels as usize, limit, hasher)?)
     }
 
-    /// What the records tell of a name. Of one whose hash is refused nothing is told.
+    /// Returns what the records say of a name, or None if the hasher fails for it.
     fn find_told(
         &self,
         role: Role<'r>,
@@ -146,7 +147,7 @@ impl<'r, 'a, H: Nsec3Hasher> Inquiry<'r, 'a, H> {
         }
     }
 
-    /// What they tell of the wildcard that an answer asked for.
+    /// Returns what the records say of the wildcard that was looked up for an answer.
     fn find_wildcard(&self, answer: Answer) -> Result<Option<Part<'r, 'a>>, DenialFault>
         ensures ok { IfOk result (λ part. option_map telling_of part
             ≡ told_where (nsec3_told (records_of H.answer self.now))
@@ -160,7 +161,7 @@ impl<'r, 'a, H: Nsec3Hasher> Inquiry<'r, 'a, H> {
         }
     }
 
-    /// What they tell of the names that a whole answer rests on.
+    /// Returns what the records say of the names that a whole answer rests on.
     fn find_whole(&self, answer: Answer) -> Result<Parts<'r, 'a>, DenialFault>
         ensures ok { IfOk result (λ parts. AreWhole
             (as_param_record (λ n. n) self.now.nsec3param.now) (records_of H.answer self.now)
@@ -179,7 +180,8 @@ impl<'r, 'a, H: Nsec3Hasher> Inquiry<'r, 'a, H> {
         })
     }
 
-    /// What they tell of the next closer name, one label longer than so many.
+    /// Returns what the records say of the next closer name, which has one label more than
+    /// `labels`.
     fn find_closer(&self, labels: u8) -> Result<Parts<'r, 'a>, DenialFault>
         ensures ok { IfOk result (λ parts. tellings_of parts ≡ expansion_tellings
             (as_param_record (λ n. n) self.now.nsec3param.now) (records_of H.answer self.now)
@@ -198,12 +200,13 @@ impl<'r, 'a, H: Nsec3Hasher> Inquiry<'r, 'a, H> {
         })
     }
 
-    /// What they tell of the names that an answer rests on, where that is asked for.
+    /// Returns what the records say of the names that an answer rests on, if these are to be
+    /// printed.
     ///
     /// # Errors
     ///
-    /// `Signing` where the hasher refuses the name, or one on the way to its closest encloser; and
-    /// `OutOfMemory`.
+    /// `Signing` if the hasher fails for the name, or for one on the way to its closest encloser,
+    /// and `OutOfMemory` if there is no memory.
     pub fn parts(
         &self,
         labels: Option<u8>,

@@ -1,4 +1,4 @@
-//! What NSEC records tell of the names that an answer rests on.
+//! What NSEC records say of the names that an answer rests on.
 ghost use Rattle.std.specs.{Prelude.◌≡◌, Option.option_map};
 ghost use Rattle.domain_nsec.specs.Chain.{links_of};
 ghost use Rattle.judge_program.specs.Told.{wildcard_count, nsec_told, nsec_tellings, telling_of, tellings_of};
@@ -12,8 +12,8 @@ use domain_answer::{Answer, NsecFound, find_nsec, wildcard_of};
 use domain_base::{MAX_NAME, ParsedName, ToName};
 use domain_borrowed::ReadNsec;
 
-/// The wildcard below the closest encloser of a name, where the answer asked for it; its octets lie
-/// in the buffer.
+/// Returns the wildcard below the closest encloser of a name, if it was looked up for the answer.
+/// Its octets are in the buffer.
 pub fn wildcard_asked<'r, 'b>(
     buffer: &'b mut [u8; MAX_NAME],
     name: &'r ZoneName,
@@ -29,7 +29,7 @@ pub fn wildcard_asked<'r, 'b>(
     Some((Role::Wildcard(name.last_labels(count)), wildcard))
 }
 
-/// What they tell of a name.
+/// Returns what the records say of a name.
 fn find_told<'r, 'a, N: ToName>(
     apex: &ZoneName,
     nsecs: &'r [ReadNsec<'a>],
@@ -54,7 +54,7 @@ fn find_told<'r, 'a, N: ToName>(
     }
 }
 
-/// What they tell of the wildcard that an answer asked for.
+/// Returns what the records say of the wildcard that was looked up for an answer.
 fn find_wildcard<'r, 'a>(
     question: &'r Question,
     nsecs: &'r [ReadNsec<'a>],
@@ -69,7 +69,7 @@ fn find_wildcard<'r, 'a>(
     find_told(&question.apex, nsecs, role, &wildcard)
 }
 
-/// What they tell of the names that an answer rests on, where it rests on records.
+/// Returns what the records say of the names that an answer rests on, if it rests on records.
 pub fn nsec_parts<'r, 'a>(
     question: &'r Question,
     nsecs: &'r [ReadNsec<'a>],

@@ -1,4 +1,4 @@
-//! The run of the program, over any reader and any writer.
+//! Runs the program over any reader and any writer.
 ghost use Rattle.std.specs.Prelude.{◌≡◌, IfErr, MatchResult, map, string_bytes};
 ghost use Rattle.denial_program.specs.{Fault.IsBeforeOutput, Run.IsRun};
 ghost use Rattle.judge_program.specs.Command.{IsCommand};
@@ -12,17 +12,23 @@ use domain_hasher::Nsec3Hasher;
 use std::alloc::Global;
 use std::io::{BufRead, Write};
 
-/// Does what the words ask for: reads records of a chain, one a line, and writes what they prove as
-/// a whole answer to a question about a name and a type, on one line, and below it the records that
-/// are asked for.
+/// Runs the command that the arguments spell. Reads records of a chain, one a line. Writes on one
+/// line what they prove as a whole answer to a question about a name and a type, and below it the
+/// records to print.
 ///
 /// # Errors
 ///
-/// The first that stands: `Usage` where the words are no command; `Read` where the input could not
-/// be read; `Line` of the lowest line that is no record; for NSEC3 `Param` where the apex has not
-/// exactly one NSEC3PARAM record, and `Signing` where the hasher refuses; `Write` where the output
-/// could not be written; and want of memory wherever it comes, which is `Unprepared` for the
-/// records and else `OutOfMemory`. Nothing is written before `Write` and `OutOfMemory`.
+/// The first that applies:
+///
+/// - `Usage` if the arguments are no command;
+/// - `Read` if the input could not be read;
+/// - `Line` with the first line that is not a record;
+/// - for NSEC3 `Param` if the apex does not have exactly one NSEC3PARAM record, and `Signing` if
+///   the hasher fails;
+/// - `Write` if the output could not be written.
+///
+/// Out of memory may come at any time: it is `Unprepared` for the records, and else `OutOfMemory`.
+/// For other errors than `Write` and `OutOfMemory`, nothing is written.
 pub fn run_judge<R: BufRead, W: Write, H: Nsec3Hasher>(
     alloc: Global,
     words: &[String],
@@ -36,7 +42,7 @@ pub fn run_judge<R: BufRead, W: Write, H: Nsec3Hasher>(
         (R.remaining input.old) (R.remaining input.new) (W.contents output.old)
         (W.contents output.new) result }
 
-    // Usage is answered exactly where the words are no command, want of memory aside.
+    // `Usage` if and only if the arguments are no command, unless memory runs out.
     ensures usage { MatchResult result (λ _. IsCommand (map string_bytes words.now))
         (TellsUsage (map string_bytes words.now)) }
 

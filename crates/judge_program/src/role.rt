@@ -1,4 +1,4 @@
-//! The names that records tell of.
+//! The roles of names for which records are looked up.
 ghost use Rattle.std.specs.Prelude.{Some};
 ghost use Rattle.judge_program.specs.Told.{role_text};
 
@@ -6,14 +6,14 @@ use crate::answer_text::WildcardText;
 use domain_base::ParsedName;
 use std::fmt;
 
-/// The name that a record tells of.
+/// The role of a name that a record matches or covers.
 #[derive(Drop)]
 pub enum Role<'a> {
-    /// The name that was asked for.
+    /// The name in the question.
     Asked,
     /// Its closest encloser.
     Encloser(ParsedName<'a>),
-    /// The name one label longer than that.
+    /// The name one label longer than the closest encloser.
     NextCloser(ParsedName<'a>),
     /// The wildcard right below this name.
     Wildcard(ParsedName<'a>),

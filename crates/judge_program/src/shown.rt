@@ -13,9 +13,9 @@ use std::io::Write;
 pub enum Shown {
     /// The answer, on one line.
     Answer,
-    /// Below it the records that it rests on, one a line, with what each tells.
+    /// The answer and, below it, the records that it rests on, one a line, with what each says.
     Why,
-    /// The answer as a comment, and below it the records that a server answers with, one a line.
+    /// The answer as a comment and, below it, the records with which a server answers, one a line.
     Records,
 }
 

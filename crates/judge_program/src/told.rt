@@ -1,4 +1,4 @@
-//! The records that an answer rests on, and those that a server answers with, as they are printed.
+//! Prints the records that an answer rests on, and those with which a server answers.
 ghost use Rattle.std.specs.{Prelude.{◌≡◌, Some, [], OnOk, if◌then◌else◌}, Option.option_map};
 ghost use Rattle.std.specs.Io.KnownBytes.{Appends};
 ghost use Rattle.domain_nsec3.specs.View.{as_param_record};
@@ -33,31 +33,31 @@ impl fmt::Display for Listed<'_, '_> {
     }
 }
 
-/// A record that tells of a name.
+/// A record that matches or covers a name.
 #[derive(Drop)]
 pub struct Part<'r, 'a> {
     /// The name.
     pub role: Role<'r>,
-    /// Whether it matches the name, and does not cover it.
+    /// Whether the record matches the name; otherwise it covers the name.
     pub matches: bool,
     /// The record.
     pub listed: Listed<'r, 'a>,
 }
 
-/// What records tell of the names that an answer rests on.
+/// What records say of the names that an answer rests on.
 #[derive(Drop)]
 pub struct Parts<'r, 'a> {
-    /// Of the name or, with NSEC3, of its closest encloser.
+    /// For the name or, with NSEC3, its closest encloser.
     pub matched: Option<Part<'r, 'a>>,
-    /// Of the next closer name, with NSEC3.
+    /// For the next closer name, with NSEC3.
     pub closer: Option<Part<'r, 'a>>,
-    /// Of the wildcard, where it was asked for.
+    /// For the wildcard, if it was looked up.
     pub wildcard: Option<Part<'r, 'a>>,
-    /// The record of the parameters, with NSEC3.
+    /// The NSEC3PARAM record, with NSEC3.
     pub param: Option<&'r ReadNsec3param<'a>>,
 }
 
-/// Writes a line on a record that tells of a name, if one does.
+/// Writes a line on a record that matches or covers a name, if there is one.
 fn write_told<W: Write>(part: &Option<Part<'_, '_>>, output: &mut W) -> io::Result<()>
     ensures { OnOk result (Appends (W.contents output.old) (W.contents output.new)
         (told_line (option_map telling_of part.now))) }
@@ -76,7 +76,7 @@ fn write_told<W: Write>(part: &Option<Part<'_, '_>>, output: &mut W) -> io::Resu
     writeln!(output, "covers {role}: {listed}")
 }
 
-/// Whether a response needs this record of the name or its closest encloser.
+/// Returns whether a response needs this record of the name or its closest encloser.
 fn is_needed(needs: Needs, listed: Listed<'_, '_>) -> bool
     ensures { result ≡ is_needed needs (any_of listed.entry) }
 {
@@ -89,7 +89,7 @@ fn is_needed(needs: Needs, listed: Listed<'_, '_>) -> bool
     }
 }
 
-/// The record of the name or its closest encloser, where the response needs it.
+/// Returns the record of the name or its closest encloser, if the response needs it.
 fn matched_part<'r, 'a>(needs: Needs, found: &Option<Part<'r, 'a>>) -> Option<Listed<'r, 'a>>
     ensures { option_map any_of result ≡ matched_part needs (option_map telling_of found.now) }
 {
@@ -99,7 +99,7 @@ fn matched_part<'r, 'a>(needs: Needs, found: &Option<Part<'r, 'a>>) -> Option<Li
     }
 }
 
-/// The record that tells of a name, where it is needed.
+/// Returns the record that matches or covers a name, if it is needed.
 fn listed_of<'r, 'a>(is_needed: bool, found: &Option<Part<'r, 'a>>) -> Option<Listed<'r, 'a>>
     ensures { option_map any_of result ≡ listed_of is_needed (option_map telling_of found.now) }
 {
@@ -109,7 +109,7 @@ fn listed_of<'r, 'a>(is_needed: bool, found: &Option<Part<'r, 'a>>) -> Option<Li
     }
 }
 
-/// Whether the record is the same as another.
+/// Returns whether the record is the same as another.
 fn is_told(listed: Listed<'_, '_>, other: Option<Listed<'_, '_>>) -> bool
     ensures { result ≡ is_told (any_of listed.entry) (option_map any_of other.entry) }
 {
@@ -120,7 +120,7 @@ fn is_told(listed: Listed<'_, '_>, other: Option<Listed<'_, '_>>) -> bool
     }
 }
 
-/// Writes the line of a record, if there is one and it is not the same as one of two before it.
+/// Writes the line of a record, if there is one, unless it is the same as one of two before it.
 fn write_once<W: Write>(
     first: Option<Listed<'_, '_>>,
     second: Option<Listed<'_, '_>>,
@@ -156,8 +156,8 @@ fn write_param<W: Write>(
     }
 }
 
-/// Writes the lines of three records, each once, and then that of the NSEC3PARAM record, if there
-/// are any.
+/// Writes the lines of three records, each once, and then, if there were any, that of the
+/// NSEC3PARAM record.
 fn write_records<W: Write>(
     matched: Option<Listed<'_, '_>>,
     closer: Option<Listed<'_, '_>>,
@@ -177,8 +177,8 @@ fn write_records<W: Write>(
     write_param(param, is_any, output)
 }
 
-/// Writes what is asked for below an answer: the records that it rests on, one a line, with what
-/// each tells; or those that a server answers with, one a line.
+/// Writes what is printed below an answer: the records that it rests on, one a line, with what each
+/// says; or those with which a server answers, one a line.
 pub fn write_below<W: Write>(
     parts: &Option<Parts<'_, '_>>,
     shown: Shown,

@@ -1,4 +1,4 @@
--- Names of an NSEC3 chain that hash alike, as they are told of the records of an input.
+-- Names of an NSEC3 chain with the same hash, as they are reported for the records of an input.
 use Rattle.std.specs.Prelude.{◌≡◌, ◌⊎◌, ℕ, List, [], ◌∷◌, ◌++◌, Option, Some, None, codes}
 use Rattle.domain_octets.specs.Octets.{Octets}
 use Rattle.domain_names.specs.{Text.name_text, Name.Name}
@@ -9,22 +9,22 @@ use Rattle.domain_nsec3.specs.View.{HasherAnswer}
 use Rattle.denial_program.specs.{Answer.usual_nsec3_config, Command.Params, Text.lines_of}
 use Rattle.lint_program.specs.declared.outcome.Outcome.{Outcome, TheVariants.Faulty}
 
--- these are told of records, of the chain that `denial nsec3` would make of them with these
--- parameters: nothing without parameters, nor where they are of more than one class
+-- these pairs are reported for the chain that `denial nsec3` would make of the records with these
+-- parameters: none without parameters, or if the records are of several classes
 abbrev pub AreTold : HasherAnswer → List RawRecord → Name → Option Params → List Pair → Type 0
 AreTold answers given apex None pairs = pairs ≡ []
 AreTold answers given apex (Some p) pairs =
     (AreMixed given × (pairs ≡ []))
     ⊎ OfZone raw_view given (λ L. AreAlike L apex (usual_nsec3_config answers p) pairs)
 
--- the hasher refuses the hash of a name of that chain, and of none before it; without parameters
--- nothing is refused
+-- the hasher fails for a name of that chain, and for none before it; without parameters it fails
+-- for none
 abbrev pub IsRefusalBy : HasherAnswer → List RawRecord → Name → Option Params → ℕ → Type 0
 IsRefusalBy answers given apex None number = ⊥
 IsRefusalBy answers given apex (Some p) number =
     OfZone raw_view given (λ L. IsFirstRefusal L apex (usual_nsec3_config answers p) number)
 
--- what is told of a pair
+-- the line about a pair
 abbrev pub alike_line : Pair → Octets
 alike_line p =
     codes "zone: " ++ (name_text p.0 ++ codes ".") ++ codes " and " ++ (name_text p.1 ++ codes ".")
@@ -33,7 +33,7 @@ alike_line p =
 abbrev pub alike_text : List Pair → Octets
 alike_text = lines_of alike_line
 
--- the outcome, where it would be this one without these pairs: each is a fault
+-- the outcome with these pairs, each of which is a fault; `plain` is the outcome without them
 abbrev pub outcome_with : List Pair → Outcome → Outcome
 outcome_with [] plain = plain
 outcome_with (p ∷ more) plain = Faulty

@@ -1,15 +1,15 @@
--- What the words after the program's name ask for, and which faults there are.
+-- The command that the arguments of the program spell, and the faults of a run.
 use Rattle.std.specs.Prelude.{◌≡◌, ◌∷◌, [], Option, Some, None}
 use Rattle.domain_names.specs.{Text.NameText, Name.{Name, Token, Tokens}}
 use Rattle.denial_program.specs.{Command.{Params, Spell}, declared.fault.DenialFault.{DenialFault, TheVariants.{Usage, Read, Signing, Write, OutOfMemory}}}
 
--- the words are one, which spells the apex
+-- the only argument spells the apex
 pub record AsksPlainly (words : Tokens) (apex : Name) : Type 0 where
   pub word : Token
   pub are : words ≡ word ∷ []
   pub names : NameText word apex
 
--- the words are three, which spell the apex and the parameters of an NSEC3 chain without opt-out
+-- the three arguments spell the apex and the parameters of an NSEC3 chain without opt-out
 pub record AsksHashed (words : Tokens) (apex : Name) (p : Params) : Type 0 where
   pub apex_word : Token
   pub iterations_word : Token
@@ -18,7 +18,7 @@ pub record AsksHashed (words : Tokens) (apex : Name) (p : Params) : Type 0 where
   pub names : NameText apex_word apex
   pub parameters : Spell iterations_word salt_word [] p
 
--- the words ask for this apex, and for these parameters or none
+-- the arguments spell this apex, and these parameters or none
 abbrev pub Asks : Tokens → Name → Option Params → Type 0
 Asks words apex None = AsksPlainly words apex
 Asks words apex (Some p) = AsksHashed words apex p
@@ -29,13 +29,13 @@ IsCommand words = (apex : Name) × (p : Option Params) × Asks words apex p
 abbrev pub IsNoCommand : Tokens → Type 0
 IsNoCommand words = (apex : Name) (p : Option Params) → Asks words apex p → ⊥
 
--- they ask for parameters
+-- the arguments have parameters
 abbrev pub IsHashedCommand : Tokens → Type 0
 IsHashedCommand words = (apex : Name) × (p : Params) × AsksHashed words apex p
 
--- a fault of a run: of usage exactly where the words are no command, want of memory aside. None is
--- of a line or of the records: what is told of these is the report. Of a hash there may be one
--- where the words ask for parameters
+-- the fault of a run: `Usage` if and only if the arguments are no command, unless memory runs out;
+-- an error of hashing only if the arguments have parameters; none is about a line or the records,
+-- which the report covers
 abbrev pub IsRunFault : Tokens → DenialFault → Type 0
 IsRunFault words Usage = IsNoCommand words
 IsRunFault words Read = IsCommand words

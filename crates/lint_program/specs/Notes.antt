@@ -1,4 +1,4 @@
--- What is told of the records that were read: each record that deserves it, and no other.
+-- The notes about the records that were read: one for each record that deserves it, and no other.
 use Rattle.std.specs.Prelude.{◌≡◌, ℕ, ◌-◌, ◌<◌, ◌==◌, Bool, not, ◌||◌, [], ◌∷◌, drop, length, nat_lt, slice_index, if◌then◌else◌, codes, ◌≢◌, ◌⊎◌, true, false}
 use Rattle.std.specs.{Prelude.{◌&&◌, List, ◌++◌, Option, Some, None, IfSome, IsSome, MatchOption, option_map}, List.{find, list_any}}
 use Rattle.std.specs.{Ordering.{nat_cmp, ordering_then}, declared.cmp.Ordering.Ordering}
@@ -12,11 +12,11 @@ use Rattle.domain_base.specs.Types as rtypes
 use Rattle.lint_program.specs.declared.looks.Look.TheVariants as look
 use Rattle.std.specs.BTreeMap as tree
 
--- ---- Octets that are data of their type, of the types whose data are not read.
+-- ---- Octets that encode data of their type, for types whose data are not read.
 
--- what data of a type are: of CNAME, PTR and DNAME (RFC 1035, sections 3.3.1 and 3.3.12; RFC 6672);
--- TXT and SPF (RFC 1035, section 3.3.14; RFC 7208); AAAA (RFC 3596); SRV (RFC 2782); TLSA (RFC
--- 6698); and CAA (RFC 8659)
+-- the shape of the data of a type: CNAME, PTR and DNAME (RFC 1035, sections 3.3.1 and 3.3.12; RFC
+-- 6672); TXT and SPF (RFC 1035, section 3.3.14; RFC 7208); AAAA (RFC 3596); SRV (RFC 2782); TLSA
+-- (RFC 6698); and CAA (RFC 8659)
 abbrev pub shape_of : ℕ → Shape
 shape_of t =
     if (t == rtypes.cname) || ((t == rtypes.ptr) || (t == rtypes.dname)) then OneName
@@ -27,13 +27,13 @@ shape_of t =
     else if t == 257 then Issuers
     else Whatever
 
--- how many octets of a text are to come after these, where so many are to come before them: texts
--- stand one after another, each after an octet with its length
+-- the number of octets of a text that must follow these octets, if `left` octets of it must come
+-- first; texts follow one another, each after its length octet
 abbrev pub to_come : ℕ → Octets → ℕ
 to_come left [] = left
 to_come left (octet ∷ octets) = to_come (if left == 0 then octet else left - 1) octets
 
--- such texts, and at least one
+-- the octets are such texts, and at least one
 pub record AreTexts (octets : Octets) : Type 0 where
   pub whole : to_come 0 octets ≡ 0
   pub some : 0 < length octets
@@ -48,15 +48,15 @@ IsSuch Certificate octets = 3 < length octets
 IsSuch Issuers octets = 2 < length octets
 IsSuch Whatever octets = Unit {0}
 
--- NSEC3PARAM data have further iterations or a salt (RFC 5155, section 4.2): after algorithm and
--- flags the number of iterations in two octets, and the length of the salt
+-- NSEC3PARAM data have additional iterations or a salt (RFC 5155, section 4.2): after algorithm and
+-- flags the data have the number of iterations in two octets, and the length of the salt
 abbrev pub has_extras : Octets → Bool
 has_extras octets =
     nat_lt (length octets) 5
     || (not (slice_index octets 2 == 0)
     || (not (slice_index octets 3 == 0) || not (slice_index octets 4 == 0)))
 
--- ---- What each note of a reason begins and ends with.
+-- ---- The beginning and the end of each note of a reason.
 
 abbrev pub frame : Reason → Octets × Octets
 frame NoSoa = (codes "the apex ", codes " owns no SOA record")
@@ -70,9 +70,10 @@ frame OddData = (codes "the octets are no data of ", [])
 frame Parameters =
     (codes "NSEC3PARAM with further iterations or a salt: ", codes " wants 0 and none")
 
--- ---- What is told of the records that were read: each record that deserves it, and no other.
+-- ---- The notes about the records that were read: one for each record that deserves it, and no
+-- other.
 
--- what a note tells: why, and of the line of which number; that there is no SOA is told of no line
+-- what a note says: the reason, and the number of the line; a missing SOA is about no line
 pub record Mark : Type 0 where
   pub reason : Reason
   pub place : Option ℕ
@@ -80,7 +81,7 @@ pub record Mark : Type 0 where
 abbrev pub mark_of : Note → Mark
 mark_of note = record { reason = note.reason; place = note.place }
 
--- in which look a reason is found
+-- the look that finds a reason
 abbrev pub look_of : Reason → Look
 look_of NoSoa = look.Soas
 look_of SecondSoa = look.Soas
@@ -92,7 +93,7 @@ look_of BesideAlias = look.Aliases
 look_of OddData = look.Data
 look_of Parameters = look.Data
 
--- whether it may be a fault, for which `denial` refuses the records
+-- whether the reason may be a fault for which `denial` rejects the records
 abbrev pub fails : Reason → Bool
 fails NoSoa = true
 fails SecondSoa = true
@@ -100,25 +101,25 @@ fails OtherClass = true
 fails OtherTtl = true
 fails _ = false
 
--- an SOA record of the apex
+-- the record is an SOA record of the apex
 abbrev pub is_apex_soa : Name → RawRecord → Bool
 is_apex_soa a r = (r.«data».rtype == rtypes.soa) && same_name r.owner a
 
--- records of the type may stand beside a CNAME record (RFC 4034, section 2.5; RFC 2181, section
+-- records of the type may exist beside a CNAME record (RFC 4034, section 2.5; RFC 2181, section
 -- 10.1)
 abbrev pub stands_beside_alias : ℕ → Bool
 stands_beside_alias t = (t == rtypes.rrsig) || (t == rtypes.nsec)
 
--- what puts records together: a name, and a number
+-- the key by which records are grouped: a name, and a number
 abbrev pub Group : Type 0
 Group = Name × ℕ
 
 abbrev pub bit : Bool → ℕ
 bit is_so = if is_so then 1 else 0
 
--- the group of a record. Of SOA records those of the apex are one; of classes all records are; of
--- TTLs those of one owner and type; of CNAME records those of one owner, without those that may
--- stand beside it, which are another
+-- the group of a record; for SOA records, those of the apex are one group; for classes, all
+-- records; for TTLs, those of one owner and type; for CNAME records, those of one owner, and those
+-- that may exist beside a CNAME record are another group
 abbrev pub group_of : Look → Name → RawRecord → Group
 group_of look.Soas a r = (a, bit (is_apex_soa a r))
 group_of look.Classes a r = (a, 0)
@@ -127,7 +128,7 @@ group_of look.Outside a r = (a, 0)
 group_of look.Aliases a r = (r.owner, bit (stands_beside_alias r.«data».rtype))
 group_of look.Data a r = (a, 0)
 
--- the groups are one: names are the same without regard to case
+-- the groups are the same: names are compared without regard to case
 abbrev pub is_group : Group → Group → Bool
 is_group g h = same_name g.0 h.0 && (g.1 == h.1)
 
@@ -135,15 +136,15 @@ is_group g h = same_name g.0 h.0 && (g.1 == h.1)
 abbrev pub first_in : Look → Name → List RawRecord → Group → Option RawRecord
 first_in l a before g = find (λ s. is_group (group_of l a s) g) before
 
--- the first of the records before it in the group of a record
+-- the first record before a record in its group
 abbrev pub earlier : Look → Name → List RawRecord → RawRecord → Option RawRecord
 earlier l a before r = first_in l a before (group_of l a r)
 
--- there is one, which is such
+-- there is an earlier record with this property
 abbrev pub HasEarlier : Option RawRecord → (RawRecord → Type 0) → Type 0
 HasEarlier first is_such = MatchOption first ⊥ is_such
 
--- when a record deserves to be told for a reason, where `first` is the first before it in its group
+-- a record deserves a note for a reason, if `first` is the first record before it in its group
 abbrev pub Deserves : Reason → Name → Option RawRecord → RawRecord → Type 0
 Deserves NoSoa a first r = ⊥
 Deserves SecondSoa a first r = (is_apex_soa a r ≡ true) × IsSome first
@@ -159,7 +160,7 @@ Deserves OddData a first r = ¬ (IsSuch (shape_of r.«data».rtype) r.«data».o
 Deserves Parameters a first r =
     (r.«data».rtype ≡ rtypes.nsec3param) × (has_extras r.«data».octets ≡ true)
 
--- it deserves it for none of the reasons that are found in a look
+-- the record deserves a note for none of the reasons that the look finds
 abbrev pub FindsNothing : Look → Name → Option RawRecord → RawRecord → Type 0
 FindsNothing look.Soas a first r =
     ¬ (Deserves SecondSoa a first r) × ¬ (Deserves StraySoa a first r)
@@ -170,16 +171,16 @@ FindsNothing look.Aliases a first r = ¬ (Deserves BesideAlias a first r)
 FindsNothing look.Data a first r =
     ¬ (Deserves OddData a first r) × ¬ (Deserves Parameters a first r)
 
--- what a look finds at a record of the line of this number: one reason for which it deserves to be
--- told, or nothing
+-- what a look finds for a record in the line with this number: one reason that it deserves, or
+-- nothing
 abbrev pub IsToldOf : Look → Name → Option RawRecord → RawRecord → ℕ → List Mark → Type 0
 IsToldOf l a first r n more =
     ((reason : Reason) × (look_of reason ≡ l) × Deserves reason a first r
     × (more ≡ record { reason = reason; place = Some n } ∷ []))
     ⊎ (FindsNothing l a first r × (more ≡ []))
 
--- what a look finds in these records, which stand in the lines of these numbers: of all of them but
--- the last, and then of the last
+-- what a look finds in these records, which are in the lines with these numbers: in all of them
+-- except the last, and then in the last
 pub data Found : Look → Name → List RawRecord → List ℕ → List Mark → Type 0 where
   nothing : (l : Look) (a : Name) → Found l a [] [] []
   more : (l : Look) (a : Name) (before : List RawRecord) (numbers : List ℕ) (marks : List Mark)
@@ -187,14 +188,14 @@ pub data Found : Look → Name → List RawRecord → List ℕ → List Mark →
       → IsToldOf l a (earlier l a before r) r n last
       → Found l a (before ++ r ∷ []) (numbers ++ n ∷ []) (marks ++ last)
 
--- that the apex owns no SOA record is told, where no line was bad
+-- a note that the apex owns no SOA record, if no line was bad
 abbrev pub missing_soa : Bool → Name → List RawRecord → List Mark
 missing_soa is_whole a records =
     if is_whole && not (list_any (is_apex_soa a) records)
     then record { reason = NoSoa; place = None } ∷ []
     else []
 
--- all that is told of these records, look by look
+-- all notes about these records, look by look
 pub record AreNoted (is_whole : Bool) (a : Name) (records : List RawRecord) (numbers : List ℕ)
     (marks : List Mark) : Type 0 where
   pub soas : List Mark
@@ -212,7 +213,7 @@ pub record AreNoted (is_whole : Bool) (a : Name) (records : List RawRecord) (num
   pub are : marks ≡ ((((((soas ++ missing_soa is_whole a records) ++ classes) ++ ttls) ++ outside)
       ++ aliases) ++ odd)
 
--- a mark of a look that is told of a record which deserves it: of the line where the record stands
+-- the mark is about a record that deserves it by the look: it has the line of the record
 pub record IsDeserved (l : Look) (a : Name) (records : List RawRecord) (numbers : List ℕ)
     (mark : Mark) : Type 0 where
   pub before : List RawRecord
@@ -228,7 +229,7 @@ pub record IsDeserved (l : Look) (a : Name) (records : List RawRecord) (numbers 
   pub look : look_of mark.reason ≡ l
   pub deserves : Deserves mark.reason a (earlier l a before borrowed) borrowed
 
--- one of these marks is of the line of this number
+-- one of these marks has this line number
 pub record HasMark (marks : List Mark) (number : ℕ) : Type 0 where
   pub front : List Mark
   pub mark : Mark
@@ -236,13 +237,14 @@ pub record HasMark (marks : List Mark) (number : ℕ) : Type 0 where
   pub are : marks ≡ front ++ mark ∷ back
   pub place : mark.place ≡ Some number
 
--- ---- The first record of each group, by a map.
+-- ---- The first record of each group, in a map.
 
 -- the order of groups in the map
 abbrev pub group_cmp : Group → Group → Ordering
 group_cmp g h = ordering_then (canonical_cmp g.0 h.0) (nat_cmp g.1 h.1)
 
--- the map has of each group the first of these records, and so has the group of the last record
+-- the map has the first of these records for each group; so does `last`, for the group of the last
+-- record
 pub record AreFirsts (l : Look) (a : Name) (before : List RawRecord) (firsts : Firsts)
     : Type 0 where
   pub map : (g : Group) → option_map (λ p. p.borrowed.now) (tree.get group_cmp firsts.map g)

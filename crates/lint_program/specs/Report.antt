@@ -1,4 +1,4 @@
--- What is told of an input, line by line, and as a whole.
+-- The report on an input, line by line, and as a whole.
 use Rattle.std.specs.Prelude.{◌≡◌, ◌⊎◌, ℕ, ◌+◌, List, [], ◌∷◌, Bool, true, false, ◌≢◌, ◌≤◌, ◌==◌, ◌&&◌, ◌++◌, All, codes, length, Option}
 use Rattle.std.specs.{Prelude.{Some, None, if◌then◌else◌}, Fmt.decimal}
 use Rattle.domain_octets.specs.{Octets.Octets, Text.{space, tilde}}
@@ -13,11 +13,11 @@ use Rattle.domain_nsec3.specs.View.{HasherAnswer}
 use Rattle.domain_hasher.specs.declared.error.Nsec3HashError.TheVariants.{Hasher}
 use Rattle.domain_records.specs.declared.error.SigningError.{SigningError, TheVariants.Nsec3HashingError}
 
--- ---- What the lines of an input are.
+-- ---- The lines of an input.
 
 -- each of these lines, of which the first has the number n, is skipped, spells a record, or is bad:
--- these are the numbers of all that are bad, and the records of all others with their numbers, in
--- order
+-- `bad` are the numbers of all bad lines, and `records` the records of all others with their
+-- numbers, in order
 abbrev pub AreLinted : ℕ → List Octets → List ℕ → List ℕ → List RawRecord → Type 0
 AreLinted n [] bad numbers records = (bad ≡ []) × (numbers ≡ []) × (records ≡ [])
 AreLinted n (line ∷ more) bad numbers records =
@@ -40,14 +40,14 @@ is_faulty Clean = false
 is_faulty Warned = false
 is_faulty Faulty = true
 
--- ---- What is told of an input.
+-- ---- The report on an input.
 
--- the octet is printed, and no end of a line
+-- the octet is printable, and no line end
 abbrev pub IsPrinted : ℕ → Type 0
 IsPrinted octet = (space ≤ octet) × (octet ≤ tilde)
 
--- one line of the report: that the line of this number is bad, at which of its words, and what is
--- told of that
+-- one line of the report: the line with this number is bad, at which of its words, and what is
+-- wrong with it
 pub record IsFault (number : ℕ) (text : Octets) : Type 0 where
   pub word : ℕ
   pub told : Octets
@@ -55,7 +55,7 @@ pub record IsFault (number : ℕ) (text : Octets) : Type 0 where
   pub is : text ≡ codes "line " ++ decimal number ++ codes ", word " ++ decimal word ++ codes ": "
       ++ told ++ codes "\n"
 
--- for each of these a text that is such, one after another
+-- the texts of these values, one after another
 abbrev pub AreEach : {A : Type 0} → (A → Octets → Type 0) → List A → Octets → Type 0
 AreEach is_such [] text = text ≡ []
 AreEach is_such (x ∷ more) text =
@@ -66,24 +66,25 @@ AreEach is_such (x ∷ more) text =
 abbrev pub AreFaults : List ℕ → Octets → Type 0
 AreFaults = AreEach IsFault
 
--- how a line of the report begins that is of no bad line
+-- the beginning of a line of the report that is about no bad line
 abbrev pub kind_of : Bool → Octets
 kind_of is_fault = if is_fault then codes "zone: " else codes "warning: "
 
--- of which line of the input it is
+-- the line of the input that it is about
 abbrev pub place_text : Option ℕ → Octets
 place_text None = []
 place_text (Some n) = codes "line " ++ decimal n ++ codes ": "
 
--- such a line of the report, which tells a mark: between what each note of its reason begins and
--- ends with stands printed text
+-- such a line of the report for a mark: printable text between the beginning and the end that each
+-- note of the reason has
 pub record IsLine (is_fault : Bool) (mark : Mark) (text : Octets) : Type 0 where
   pub told : Octets
   pub printed : All IsPrinted told
   pub is : text ≡ kind_of is_fault ++ place_text mark.place ++ (frame mark.reason).0 ++ told
       ++ (frame mark.reason).1 ++ codes "\n"
 
--- as a fault of the zone where it is one for which the records are refused, and else as a warning
+-- the line of a note: a fault of the zone if the records are rejected and the reason may be a
+-- fault, and else a warning
 abbrev pub IsNote : Bool → Mark → Octets → Type 0
 IsNote are_refused mark text = IsLine (fails mark.reason && are_refused) mark text
 
@@ -91,23 +92,23 @@ IsNote are_refused mark text = IsLine (fails mark.reason && are_refused) mark te
 abbrev pub AreNotes : Bool → List Mark → Octets → Type 0
 AreNotes are_refused = AreEach (IsNote are_refused)
 
--- the records have no NSEC chain, for which `denial` refuses them
+-- the records have no NSEC chain, for a fault for which `denial` rejects them
 abbrev pub AreRefused : List RawRecord → Name → Type 0
 AreRefused records apex = (fault : DenialFault) × IsOfRecords fault × HasNoNsecs records apex fault
 
--- they have one
+-- the records have an NSEC chain
 abbrev pub HaveChain : List RawRecord → Name → Type 0
 HaveChain records apex = (answer : Reply) × IsNsecs records apex answer
 
--- the outcome, where these lines are bad, the others give these records, and these marks are told
+-- the outcome if these lines are bad, the others give these records, and these marks are reported
 abbrev pub IsOutcome : List ℕ → List RawRecord → Name → List Mark → Outcome → Type 0
 IsOutcome bad records apex marks Clean = (bad ≡ []) × HaveChain records apex × (marks ≡ [])
 IsOutcome bad records apex marks Warned = (bad ≡ []) × HaveChain records apex × (marks ≢ [])
 IsOutcome bad records apex marks Faulty = (bad ≢ []) ⊎ AreRefused records apex
 
--- the report on these lines: each line that is bad, and no other, is told by its number; then what
--- the records of the others deserve to be told for, and nothing else; and with parameters each pair
--- of names that hash alike with these
+-- the report on these lines: each bad line, and no other, by its number; then the notes that the
+-- records of the others deserve, and nothing else; and with parameters each pair of names that have
+-- the same hash
 pub record IsTold (answers : HasherAnswer) (lines : List Octets) (apex : Name) (p : Option Params)
     (outcome : Outcome) (text : Octets) : Type 0 where
   pub bad : List ℕ
@@ -127,7 +128,7 @@ pub record IsTold (answers : HasherAnswer) (lines : List Octets) (apex : Name) (
   pub known : IsOutcome bad records apex marks plain
   pub tells : outcome ≡ outcome_with pairs plain
 
--- the words ask for parameters, with which the hasher refuses a name of the records
+-- the arguments have parameters, with which the hasher fails for a name of the records
 pub record IsRefused (answers : HasherAnswer) (words : Tokens) (lines : List Octets)
     (error : SigningError) : Type 0 where
   pub apex : Name

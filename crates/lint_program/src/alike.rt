@@ -1,4 +1,4 @@
-//! Which names of a zone hash alike.
+//! Names of a zone that have the same hash.
 ghost use Rattle.std.specs.Prelude.{◌≡◌, ◌⊎◌, ℕ, List, IfErr, IfOk, map};
 ghost use Rattle.domain_alike.specs.Alike.{pair_of};
 ghost use Rattle.domain_borrowed.specs.Data.{RawRecord};
@@ -19,15 +19,16 @@ use domain_nsec3::GenerateNsec3Config;
 use domain_records::{InPlaceSorter, SigningError};
 use std::alloc::Global;
 
-/// Of the names of the NSEC3 chain that `denial nsec3` would make of sorted records with these
-/// parameters, each that has the hash of one before it in canonical order, with the first that has
-/// it. None are told without parameters.
+/// Returns each name of the NSEC3 chain that has the hash of an earlier name in canonical order,
+/// with the first name that has it. The chain is the one that `denial nsec3` would make of the
+/// sorted records with these parameters. Without parameters there are no pairs.
 ///
-/// Takes memory for each name: its hash is looked for in a map.
+/// Allocates memory for each name, since hashes are looked up in a map.
 ///
 /// # Errors
 ///
-/// `Signing` with what the hasher refuses of the first name that it refuses, and `OutOfMemory`.
+/// `Signing` with the hasher's error for the first name for which it fails, and `OutOfMemory` if
+/// there is no memory.
 pub fn alike_of<'a, H: Nsec3Hasher>(
     alloc: Global,
     apex: &ParsedName<'a>,
@@ -58,7 +59,8 @@ pub fn alike_of<'a, H: Nsec3Hasher>(
     }
 }
 
-/// Returns the outcome, where it would be this one without these pairs: each of them is a fault.
+/// Returns the outcome with these pairs, each of which is a fault. `plain` is the outcome without
+/// them.
 pub fn outcome_with(pairs: &[Alike<'_>], plain: Outcome) -> Outcome
     ensures { result ≡ outcome_with (map pair_of pairs.now) plain }
 {

@@ -1,4 +1,4 @@
-//! What the words after the program's name ask for.
+//! The command that the arguments of the program spell.
 ghost use Rattle.std.specs.Prelude.{◌≡◌, ◌⊎◌, IfErr, IfOk, map, string_bytes};
 ghost use Rattle.domain_names.specs.Text.{IsNoName, NameText};
 ghost use Rattle.denial_program.specs.declared.fault.DenialFault.TheVariants.{OutOfMemory};
@@ -9,16 +9,16 @@ use denial_program::{DenialFault, Nsec3Params, name_of, parameters_of};
 use domain_base::{ParsedName, ToName};
 use std::alloc::Global;
 
-/// What the words ask for.
+/// A command.
 #[derive(Drop)]
 pub struct Asked<'a> {
     /// The apex of the zone.
     pub apex: ParsedName<'a>,
-    /// The parameters of an NSEC3 chain, where they are given.
+    /// The parameters of an NSEC3 chain, if they are given.
     pub parameters: Option<Nsec3Params>,
 }
 
-/// Returns the name that a word spells, in the arena.
+/// Returns the name that an argument spells, stored in the arena.
 fn stored_name<'a>(
     alloc: Global,
     arena: &'a Bump,
@@ -33,12 +33,12 @@ fn stored_name<'a>(
     Ok(ParsedName::over(wire))
 }
 
-/// Returns what the words ask for: an apex, and after it the iterations and the salt of an NSEC3
-/// chain or nothing. The apex lies in the arena.
+/// Returns the command that the arguments spell: an apex, and after it either the iterations and
+/// the salt of an NSEC3 chain or nothing. The apex is stored in the arena.
 ///
 /// # Errors
 ///
-/// `Usage` exactly where they ask for nothing such, and `OutOfMemory`.
+/// `Usage` if and only if they are no such command, and `OutOfMemory` if there is no memory.
 pub fn asked_of<'a>(
     alloc: Global,
     arena: &'a Bump,

@@ -1,4 +1,4 @@
-//! What is told of the data of a record.
+//! Explains what is wrong with the data of a record.
 
 use crate::generic::generic_form;
 use crate::hint::quoted;
@@ -10,7 +10,8 @@ use std::alloc::{AllocError, Global};
 /// The number of the first word of a line's data, counted from 1.
 const FIRST: usize = 5;
 
-/// Returns whether all octets of a word are digits of Base 16, or of Base 64 and what fills it up.
+/// Returns whether all octets of a word are Base 16 digits or, for `BASE64`, Base 64 digits or
+/// padding.
 fn are_digits(form: &str, word: &str) -> bool {
     word.as_bytes().iter().all(|octet| match *octet {
         b'+' | b'/' | b'=' => form == BASE64,
@@ -19,7 +20,7 @@ fn are_digits(form: &str, word: &str) -> bool {
     })
 }
 
-/// Returns the place of the first of these words, from a place on, that has an octet which is no
+/// Returns the place of the first of these words, starting at `from`, with an octet that is not a
 /// digit of the form.
 fn first_other(form: &str, words: &[&str], from: usize) -> Option<usize> {
     let after = words
@@ -29,8 +30,8 @@ fn first_other(form: &str, words: &[&str], from: usize) -> Option<usize> {
     Some(from.saturating_add(after))
 }
 
-/// Returns what is told of data in the generic form, and of which word, by its number; of this one
-/// where there are too few.
+/// Returns what is wrong with data in the generic form, and the number of the wrong word. That is
+/// `number` if words are missing.
 fn told_of_generic(
     alloc: Global,
     rtype: Rtype,
@@ -64,8 +65,8 @@ fn told_of_generic(
     Ok((FIRST, text?))
 }
 
-/// Returns what is told of data of which the word of this number in the line can't be read, and of
-/// which word, by its number: octets that are several words are read as one.
+/// Returns what is wrong with data whose word of this number in the line cannot be read, and the
+/// number of the wrong word. Octets in several words are read as one.
 pub fn told_of_data(
     alloc: Global,
     rtype: Rtype,
@@ -104,7 +105,7 @@ pub fn told_of_data(
     Ok((place.saturating_add(FIRST), text))
 }
 
-/// Returns what is told of data that end too early.
+/// Returns the explanation for data that end too early.
 pub fn missing_data(alloc: Global, rtype: Rtype, data: &[&str]) -> Result<String, AllocError> {
     if data.first() == Some(&"\\#") {
         return format!(in alloc;

@@ -1,4 +1,4 @@
-//! What is wrong in a line that is no record. Nothing here decides that it is none.
+//! Explains what is wrong with a line that is not a record. Nothing here decides that it is none.
 
 use crate::data_hint::{missing_data, told_of_data};
 use crate::hint::{class_trouble, quoted, strange_trouble, ttl_trouble, type_trouble};
@@ -9,8 +9,8 @@ use denial_program::without_end;
 use std::alloc::{AllocError, Global};
 use std::str;
 
-/// Returns what is wrong in a line, which stands with its end, and at which of its words, by its
-/// number counted from 1.
+/// Returns the number of the wrong word in a line, counted from 1, and what is wrong with it. Pass
+/// the line with its end.
 pub fn explain(alloc: Global, line: &[u8]) -> Result<(usize, String), AllocError> {
     let line = without_end(line);
     let mut words = Vec::new(alloc);
@@ -36,7 +36,7 @@ pub fn explain(alloc: Global, line: &[u8]) -> Result<(usize, String), AllocError
     explain_words(alloc, line, &words)
 }
 
-/// Returns the directive of a zone file with which the words begin (RFC 1035, section 5.1; RFC
+/// Returns the directive of a zone file at the beginning of the words (RFC 1035, section 5.1; RFC
 /// 2308, section 4).
 fn directive_of(words: &[&str]) -> Option<&'static str> {
     let first = words.first()?;
@@ -45,7 +45,7 @@ fn directive_of(words: &[&str]) -> Option<&'static str> {
         .find(|directive| first.eq_ignore_ascii_case(directive))
 }
 
-/// Tells a word that can't be read as what stands there.
+/// Explains the word that cannot be read as the part of the record at its place.
 fn explain_words(
     alloc: Global,
     line: &[u8],
@@ -78,7 +78,7 @@ fn explain_words(
     }
 }
 
-/// Returns what is told of a word that is no data.
+/// Returns what is wrong with a word that is not part of the data.
 fn told_of_word(
     alloc: Global,
     words: &[&str],
@@ -98,7 +98,7 @@ fn told_of_word(
     }
 }
 
-/// Returns what is told of a part that is missing at the end of the line.
+/// Returns the explanation for a part that is missing at the end of the line.
 fn told_of_missing(alloc: Global, data: &[&str], part: Part) -> Result<String, AllocError> {
     let text = match part {
         Part::Owner => "the owner is missing",

@@ -4,8 +4,8 @@ ghost use Rattle.std.specs.Prelude.{◌≡◌};
 use denial_program::DenialFault;
 use std::fmt;
 
-/// Why a run of the program stops, with the text that the program prints on standard error: that of
-/// the fault, but for words that are no command.
+/// The reason why a run of the program stops, with the text that the program prints on standard
+/// error: that of the fault, except for arguments that are no command.
 #[derive(Clone, Copy, Debug, PartialEq, Eq)]
 pub struct LintFault {
     fault: DenialFault,

@@ -12,8 +12,8 @@ use std::alloc::{AllocError, Global};
 use std::collections::BTreeMap;
 use std::collections::btree_map::Entry;
 
-/// The first record of each group so far. Records of one group mostly come one after another, so
-/// the group of the last record is kept beside the map.
+/// The first record of each group so far. Records of one group mostly follow one another, so the
+/// group of the last record is kept beside the map.
 #[derive(Drop)]
 pub struct Firsts<'z, 'a> {
     map: BTreeMap<Group<'z>, Placed<'z, 'a>>,
@@ -21,7 +21,7 @@ pub struct Firsts<'z, 'a> {
 }
 
 impl<'z, 'a> Firsts<'z, 'a> {
-    /// Returns no groups. Takes no memory.
+    /// Returns a value without groups. Does not allocate.
     pub fn new(alloc: Global) -> Self
         ensures { (look : Look) (apex : Name) → AreFirsts look apex [] result }
     {
@@ -43,7 +43,7 @@ impl<'z, 'a> Firsts<'z, 'a> {
         (last.1 == group.1 && last.0 == group.0).then_some(*first)
     }
 
-    /// Returns the first record that came in a group. If none did, enters this one.
+    /// Returns the first record of a group. If there is none, inserts this one.
     fn enter(
         &mut self,
         group: Group<'z>,
@@ -63,7 +63,7 @@ impl<'z, 'a> Firsts<'z, 'a> {
     }
 }
 
-/// Returns the first record that came in the group of a record. If none did, this record is the
+/// Returns the first record in the group of a record. If there is none, this record becomes the
 /// first.
 pub fn first_in_group<'z, 'a>(
     look: Look,

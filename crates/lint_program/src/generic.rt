@@ -1,4 +1,5 @@
-//! The generic form of data (RFC 3597, section 5) of types that have no text of their own here.
+//! The generic form of data (RFC 3597, section 5), for types without a presentation format of their
+//! own here.
 
 use crate::odd::{Shape, shape_of};
 use denial_program::ZoneName;
@@ -7,7 +8,7 @@ use domain_octets::OctetsBuilder;
 use std::alloc::{AllocError, Global};
 use std::net::Ipv6Addr;
 
-/// The refusal of words that are no data.
+/// The error for words that are no data.
 const NO_DATA: ScanError = ScanError::Custom("illegal data");
 
 /// Appends the octets of a name.
@@ -17,7 +18,8 @@ fn put_name(alloc: Global, data: &mut Vec<u8>, word: &str) -> Result<(), ScanErr
     Ok(())
 }
 
-/// Appends the octets of texts without escapes and blanks, quoted or not, each after its length.
+/// Appends the octets of texts without escapes and blanks, quoted or not, each after its length
+/// octet.
 fn put_texts(data: &mut Vec<u8>, words: &[&str]) -> Result<(), ScanError> {
     for word in words {
         let text = match word.as_bytes() {
@@ -34,7 +36,7 @@ fn put_texts(data: &mut Vec<u8>, words: &[&str]) -> Result<(), ScanError> {
     Ok(())
 }
 
-/// Appends the octets of numbers of 16 bits.
+/// Appends the octets of 16-bit numbers.
 fn put_numbers(data: &mut Vec<u8>, words: &[&str]) -> Result<(), ScanError> {
     for word in words {
         let number = word.parse::<u16>().map_err(|_| NO_DATA)?;
@@ -43,7 +45,7 @@ fn put_numbers(data: &mut Vec<u8>, words: &[&str]) -> Result<(), ScanError> {
     Ok(())
 }
 
-/// Appends the octets of data of a type by their text elsewhere, where it is known here.
+/// Appends the octets of data of a type from their usual presentation format, if it is known here.
 fn put_data(
     alloc: Global,
     data: &mut Vec<u8>,
@@ -65,8 +67,8 @@ fn put_data(
     }
 }
 
-/// How to write data of a type that have no text of their own: in the generic form, which is
-/// written out for CNAME, PTR, DNAME, AAAA, SRV, and TXT without blanks.
+/// Returns how to write data of a type without a presentation format of its own: the generic form,
+/// which is computed for CNAME, PTR, DNAME, AAAA, SRV, and TXT without blanks.
 pub fn generic_form(alloc: Global, rtype: Rtype, words: &[&str]) -> Result<String, AllocError> {
     let mut data = Vec::new(alloc);
     match put_data(alloc, &mut data, rtype, words) {

@@ -1,13 +1,13 @@
-//! What is wrong in a word, by what was to stand in its place.
+//! Explains what is wrong with a word, given what it should be.
 
 use domain_base::{Class, FromToken, Rtype, Ttl};
 use std::alloc::{AllocError, Global};
 
-/// How many octets of a word are quoted.
+/// The number of octets of a word that are quoted.
 const MOST_QUOTED: usize = 60;
 
-/// Returns a word as it is quoted: each octet that is no character of ASCII as a backslash and its
-/// number, and of a long word the beginning.
+/// Returns a word in quotes, cut after `MOST_QUOTED` octets. An octet that is not printable ASCII,
+/// or is a space, becomes a backslash and its number in three digits.
 pub fn quoted(alloc: Global, word: &[u8]) -> Result<String, AllocError> {
     let mut text = format!(in alloc; "'")?;
     for octet in word.iter().take(MOST_QUOTED) {
@@ -21,7 +21,7 @@ pub fn quoted(alloc: Global, word: &[u8]) -> Result<String, AllocError> {
     Ok(text)
 }
 
-/// Returns what is wrong in a word that no record has, wherever it stands.
+/// Returns what is wrong with a word that no record has at any place.
 pub fn strange_trouble(word: &str) -> Option<&'static str> {
     const BRACKET: &str =
         "has a bracket, and none is read here: write the record on one line, as denial-zone does";
@@ -33,7 +33,8 @@ pub fn strange_trouble(word: &str) -> Option<&'static str> {
     }
 }
 
-/// Returns how many seconds a unit of a TTL has, as zone files have them and records here do not.
+/// Returns the number of seconds in a unit of a TTL. Zone files have such units, but records here
+/// do not.
 fn seconds_of_unit(unit: u8) -> Option<u64> {
     match unit.to_ascii_lowercase() {
         b's' => Some(1),
@@ -45,8 +46,7 @@ fn seconds_of_unit(unit: u8) -> Option<u64> {
     }
 }
 
-/// Returns the seconds that a TTL with units has, as 1h30m. Returns `None` if the word is no such
-/// TTL.
+/// Returns the seconds of a TTL with units, such as 1h30m, or `None` if the word is not such a TTL.
 fn seconds_of(word: &str) -> Option<u64> {
     let mut all: u64 = 0;
     let mut number: Option<u64> = None;
@@ -65,7 +65,7 @@ fn seconds_of(word: &str) -> Option<u64> {
     Some(all)
 }
 
-/// Returns what is wrong in a TTL; the word behind it is `next`.
+/// Returns what is wrong with a TTL. `next` is the word after it.
 pub fn ttl_trouble(alloc: Global, word: &str, next: &str) -> Result<String, AllocError> {
     if let Some(seconds) = seconds_of(word) {
         return format!(in alloc; "write {seconds}, the seconds");
@@ -86,7 +86,7 @@ pub fn ttl_trouble(alloc: Global, word: &str, next: &str) -> Result<String, Allo
     format!(in alloc; "{trouble}")
 }
 
-/// Returns what is wrong in a class.
+/// Returns what is wrong with a class.
 pub fn class_trouble(word: &str) -> &'static str {
     if Rtype::from_token(word).is_ok() {
         return "that is missing before it, as IN";
@@ -115,7 +115,7 @@ const OTHER_TYPES: [(&str, u16); 17] = [
     ("URI", 256),
 ];
 
-/// Returns what is wrong in a type.
+/// Returns what is wrong with a type.
 pub fn type_trouble(alloc: Global, word: &str) -> Result<String, AllocError> {
     for (name, number) in OTHER_TYPES {
         if word.eq_ignore_ascii_case(name) {

@@ -1,5 +1,5 @@
-//! What the lines that a report tells are to `denial`, and what its notes are to the records. A
-//! caller calls a law in its body.
+//! Laws that relate the lines in a report to `denial`, and its notes to the records. To use a law,
+//! call it in a function body.
 ghost use Rattle.std.specs.{Prelude.{◌≡◌, ℕ, List, [], ◌∷◌, ◌++◌, length}, List.AllByRecursion};
 ghost use Rattle.domain_octets.specs.Octets.{Octets};
 ghost use Rattle.domain_names.specs.Name.{Name};
@@ -8,8 +8,8 @@ ghost use Rattle.denial_program.specs.Listing.{Give, IsFirstBad};
 ghost use Rattle.lint_program.specs.{Report.AreLinted, Notes.{earlier, look_of, Deserves, Found, HasMark}};
 ghost use Rattle.lint_program.specs.{Notes.{IsDeserved, Mark}, declared.looks.{Look.Look, Reason.Reason}};
 
-/// Where a report tells a line, the first that it tells is the line for which `run_denial` and
-/// `run_judge` refuse the input; and where it tells none, they read records from it.
+/// If a report has bad lines, the first is the line for which `run_denial` and `run_judge` reject
+/// the input. If it has none, they read records from the input.
 #[tactic(auto, using(crate::proofs::FirstLemmas::first_told, crate::proofs::FirstLemmas::none_from))]
 pub fn the_first_told_is_refused()
     ensures first { (lines : List Octets) (n : ℕ) (more numbers : List ℕ)
@@ -19,8 +19,8 @@ pub fn the_first_told_is_refused()
         → AreLinted 1 lines [] numbers records → Give lines records }
 {}
 
-/// Each note that a look finds is of a record that deserves it, by the number of its line; and of
-/// each record that deserves one there is a note.
+/// Each note that a look finds is about a record that deserves it, by the number of its line. Each
+/// record that deserves a note has one.
 #[tactic(auto, using(crate::proofs::NoteLemmas::told_deserved, crate::proofs::NoteLemmas::deserved_told))]
 pub fn what_is_noted_is_deserved()
     ensures told { (l : Look) (a : Name) (records : List RawRecord) (numbers : List ℕ)

@@ -1,14 +1,18 @@
-//! All that the program `denial_lint` is made of: the records of a zone are read, one a line, as
-//! `denial` reads them, and every line that is no record is told, with what is wrong in it; and
-//! then what is wrong with the records as a zone, and what is no fault but is seldom meant.
+//! The whole program `denial_lint`. It reads the records of a zone, one a line, as `denial` does.
+//! It reports every line that is not a record, with what is wrong in it. Then it reports what is
+//! wrong with the records as a zone, and what is no fault but is seldom intended.
 //!
-//! `run_lint` is generic over its reader, its writer and its hasher. Which lines are bad is decided
-//! by `next_line` of `denial_program`, each line by itself, and whether the others are refused
-//! as a zone by the generator of their NSEC chain; which of their records deserve a note, and why,
-//! by `notes_of`; and which of their names hash alike, where parameters of an NSEC3 chain are
-//! given, by `alike_of`: that is what its contract is about. What is wrong in a bad line is worked
-//! out afterwards by `explain`, of which, as of the text of a note between the words of its reason,
-//! nothing is promised but that it is printed text without an end of a line.
+//! `run_lint` is generic over its reader, its writer and its hasher. Its contract covers four
+//! decisions:
+//!
+//! - which lines are bad, by `next_line` of `denial_program`, each line separately;
+//! - whether the others are rejected as a zone, by the generator of their NSEC chain;
+//! - which of their records deserve a note, and why, by `notes_of`;
+//! - which of their names have the same hash, if parameters of an NSEC3 chain are given, by
+//!   `alike_of`.
+//!
+//! `explain` then works out what is wrong in a bad line. Its text, and the text of a note between
+//! the words of its reason, are only promised to be printable and without a line end.
 #![tactic(auto)]
 
 mod alike;

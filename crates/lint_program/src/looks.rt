@@ -1,5 +1,5 @@
-//! What is looked for in the records of a zone. Each record is looked at beside the first before it
-//! in its group, and found to deserve a note or not.
+//! The looks at the records of a zone. A look compares each record with the first before it in its
+//! group, and finds whether it deserves a note.
 ghost use Rattle.std.specs.Prelude.{◌≡◌, IfNone, IfSome, option_map};
 ghost use Rattle.lint_program.specs.Notes.{fails, group_of, is_apex_soa, look_of, stands_beside_alias, Deserves, FindsNothing};
 
@@ -8,7 +8,7 @@ use crate::reading::Place;
 use domain_base::{ParsedName, Rtype, ToName};
 use domain_borrowed::BorrowedRecord;
 
-/// What the records are looked through for, each time once.
+/// What one pass over the records looks for.
 #[derive(Clone, Copy)]
 pub enum Look {
     /// SOA records.
@@ -17,7 +17,7 @@ pub enum Look {
     Classes,
     /// TTLs.
     Ttls,
-    /// Owners outside of the zone.
+    /// Owners outside the zone.
     Outside,
     /// CNAME records.
     Aliases,
@@ -25,31 +25,31 @@ pub enum Look {
     Data,
 }
 
-/// Why something is told of records.
+/// The reason for a note.
 #[derive(Clone, Copy)]
 pub enum Reason {
     /// The apex owns no SOA record.
     NoSoa,
-    /// It owns another already.
+    /// The apex already owns another SOA record.
     SecondSoa,
     /// An SOA record at another name.
     StraySoa,
-    /// Another class than that of the first record.
+    /// A class other than that of the first record.
     OtherClass,
-    /// Another TTL than that of the first record of the owner and the type.
+    /// A TTL other than that of the first record of the owner and the type.
     OtherTtl,
-    /// An owner outside of the zone.
+    /// An owner outside the zone.
     Outside,
     /// A CNAME record beside another record of its owner.
     BesideAlias,
-    /// Octets that are no data of the type.
+    /// Octets that do not encode data of the type.
     OddData,
-    /// NSEC3PARAM data with further iterations or a salt.
+    /// NSEC3PARAM data with additional iterations or a salt.
     Parameters,
 }
 
 impl Reason {
-    /// Returns whether it may be a fault, for which `denial` refuses the records.
+    /// Returns whether the reason may be a fault for which `denial` rejects the records.
     pub fn fails(&self) -> bool
         ensures { result ≡ fails self.now }
     {
@@ -60,7 +60,7 @@ impl Reason {
     }
 }
 
-/// A record, and where it stands.
+/// A record, and its place in the input.
 #[derive(Clone, Copy)]
 pub struct Placed<'z, 'a> {
     /// The record.
@@ -69,17 +69,17 @@ pub struct Placed<'z, 'a> {
     pub place: Place,
 }
 
-/// What puts records together: a name and a number.
+/// The key by which records are grouped: a name and a number.
 pub type Group<'z> = (ParsedName<'z>, u16);
 
-/// Returns whether it is an SOA record of the apex.
+/// Returns whether the record is an SOA record of the apex.
 pub fn is_apex_soa(apex: &ParsedName<'_>, borrowed: &BorrowedRecord<'_>) -> bool
     ensures { result ≡ is_apex_soa apex.now borrowed.now }
 {
     borrowed.rtype() == Rtype::SOA && borrowed.owner().name_eq(apex)
 }
 
-/// Returns whether records of the type may stand beside a CNAME record (RFC 4034, section 2.5 and
+/// Returns whether records of the type may exist beside a CNAME record (RFC 4034, section 2.5 and
 /// RFC 2181, section 10.1).
 fn stands_beside_alias(rtype: Rtype) -> bool
     ensures { result ≡ stands_beside_alias rtype }
@@ -107,7 +107,8 @@ pub fn group_of<'z>(
     }
 }
 
-/// Why a record deserves a note, where it does; `first` is the first before it in its group.
+/// Returns the reason why a record deserves a note, or None; `first` is the first record before it
+/// in its group.
 pub fn reason_of(
     look: Look,
     apex: &ParsedName<'_>,
@@ -136,7 +137,7 @@ pub fn reason_of(
             let first = first?.borrowed;
             (borrowed.class() != first.class()).then_some(Reason::OtherClass)
         }
-        // RFC 2181, section 5.2; RRSIG records have the TTLs of what they sign.
+        // RFC 2181, section 5.2; RRSIG records have the TTLs of the records that they sign.
         Look::Ttls => {
             let first = first?.borrowed;
             ((rtype != Rtype::RRSIG) & (borrowed.ttl() != first.ttl())).then_some(Reason::OtherTtl)

@@ -1,13 +1,14 @@
-//! What is wrong in a word that spells no name (RFC 1035, sections 2.3.4 and 5.1).
+//! Explains what is wrong with a word that does not spell a name (RFC 1035, sections 2.3.4 and
+//! 5.1).
 
 use crate::wanted::NAME;
 
 const BAD_DIGITS: &str = "a backslash and a digit are followed by two more digits, up to \\255";
 
-/// Returns what is wrong in a word that spells no name.
+/// Returns what is wrong with a word that does not spell a name.
 pub fn name_trouble(word: &str) -> &'static str {
-    // How many octets the last label has, and all before it with their lengths; and behind a
-    // backslash how many digits came, and their number.
+    // The octets of the current label; the octets of all labels before it, with their lengths; and,
+    // after a backslash, the number of digits so far and their value.
     let mut label: usize = 0;
     let mut before: usize = 0;
     let mut escape: Option<(u8, u32)> = None;

@@ -1,4 +1,4 @@
-//! The texts of what is told of records.
+//! The texts of notes about records.
 ghost use Rattle.std.specs.Prelude.{◌≡◌};
 ghost use Rattle.lint_program.specs.Notes.{frame};
 
@@ -8,7 +8,7 @@ use domain_base::{ParsedName, ToName};
 use std::alloc::{AllocError, Global};
 
 impl Reason {
-    /// Returns what each note of this reason begins and ends with.
+    /// Returns the beginning and the end of each note with this reason.
     pub fn frame(&self) -> (&'static str, &'static str)
         ensures { (result.0.now, result.1.now) ≡ frame self.now }
     {
@@ -32,8 +32,8 @@ impl Reason {
     }
 }
 
-/// Returns what is told of a record for a reason, between the words that each note of it begins and
-/// ends with; `first` is the first before it in its group.
+/// Returns the text of a note about a record, between the beginning and the end that each note of
+/// the reason has; `first` is the first record before it in its group.
 pub fn text_of(
     alloc: Global,
     apex: &ParsedName<'_>,

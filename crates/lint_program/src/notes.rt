@@ -1,5 +1,5 @@
-//! What is told of records that were read: what makes a zone of them that has no chain, and what is
-//! no fault but is seldom meant. Nothing here decides whether there is a chain.
+//! Notes about the records that were read: faults because of which their zone has no chain, and
+//! what is no fault but is seldom intended. Nothing here decides whether there is a chain.
 ghost use Rattle.std.specs.Prelude.{◌≡◌, ◌==◌, ◌++◌, List, OnOk, IfOk, length, map, option_map};
 ghost use Rattle.std.specs.List.{list_any};
 ghost use Rattle.lint_program.specs.Notes.{is_apex_soa, mark_of, missing_soa, AreNoted, Found, IsToldOf, Mark};
@@ -12,18 +12,18 @@ use domain_base::{ParsedName, ToName};
 use domain_borrowed::BorrowedRecord;
 use std::alloc::{AllocError, Global};
 
-/// What is told of a record, or of all.
+/// A note about a record, or about all records.
 #[derive(Drop)]
 pub struct Note {
-    /// Why.
+    /// The reason.
     pub reason: Reason,
-    /// The number of the record's line, or `None` if it is told of all.
+    /// The number of the record's line, or `None` if the note is about all records.
     pub place: Option<u64>,
-    /// What is told between the words that each note of this reason begins and ends with.
+    /// The text between the beginning and the end that each note of this reason has.
     pub text: String,
 }
 
-/// Tells of a record what a look finds.
+/// Appends the note that a look finds about a record, if any.
 fn note_one(
     alloc: Global,
     look: Look,
@@ -49,7 +49,7 @@ fn note_one(
     Ok(())
 }
 
-/// Tells of the records what a look finds.
+/// Appends the notes that a look finds about the records.
 fn note_each<'z, 'a>(
     alloc: Global,
     look: Look,
@@ -78,7 +78,7 @@ fn has_soa(apex: &ParsedName<'_>, records: &[BorrowedRecord<'_>]) -> bool
     records.iter().any(|borrowed| is_apex_soa(apex, borrowed))
 }
 
-/// Tells that the apex owns no SOA record, where it owns none and no line was bad.
+/// Appends a note if the apex owns no SOA record and no line was bad.
 fn note_no_soa(
     alloc: Global,
     apex: &ParsedName<'_>,
@@ -101,7 +101,7 @@ fn note_no_soa(
     Ok(())
 }
 
-/// Returns what is told of records. Where lines were bad, that one is missing is not told.
+/// Returns the notes about records. If lines were bad, there is none about a missing SOA record.
 pub fn notes_of(
     alloc: Global,
     apex: &ParsedName<'_>,

@@ -1,30 +1,30 @@
-//! Data that records may have and seldom are meant to.
+//! Data that records may have but that are seldom intended.
 ghost use Rattle.std.specs.Prelude.{◌≡◌, ◌↔◌, IsTrue};
 ghost use Rattle.lint_program.specs.Notes.{has_extras, shape_of, AreTexts, IsSuch};
 
 use domain_base::{Name, Rtype};
 
-/// What data of a type are, of the types that are looked at.
+/// The shape of data of a type, for the types that are checked.
 #[derive(Clone, Copy)]
 pub enum Shape {
     /// One name.
     OneName,
     /// Texts, each after an octet with its length, and at least one.
     Texts,
-    /// An address of IPv6.
+    /// An IPv6 address.
     LongAddress,
-    /// A place of a service (RFC 2782).
+    /// The location of a service (RFC 2782).
     Service,
     /// A certificate, or its hash (RFC 6698).
     Certificate,
-    /// Who may issue certificates (RFC 8659).
+    /// The issuers that may issue certificates (RFC 8659).
     Issuers,
     /// Anything.
     Whatever,
 }
 
 impl Shape {
-    /// Returns what data of the shape are.
+    /// Returns a text that describes data of the shape.
     pub fn text(self) -> &'static str {
         match self {
             Shape::OneName => "one name",
@@ -38,8 +38,8 @@ impl Shape {
     }
 }
 
-/// Returns the shape of data of a type. Anything for a type that is not looked at: those with data
-/// of their own are read by them.
+/// Returns the shape of data of a type, or `Whatever` for a type that is not checked here. Types
+/// with a data format of their own are checked when they are read.
 pub fn shape_of(rtype: Rtype) -> Shape
     ensures { result ≡ shape_of rtype }
 {
@@ -54,7 +54,7 @@ pub fn shape_of(rtype: Rtype) -> Shape
     }
 }
 
-/// Returns whether the octets are texts, each after an octet with its length, and at least one.
+/// Returns whether the octets are texts, each after its length octet, and at least one.
 fn are_texts(octets: &[u8]) -> bool
     ensures { IsTrue result ↔ AreTexts octets.now }
 {
@@ -84,7 +84,7 @@ pub fn is_such(shape: Shape, octets: &[u8]) -> bool
     }
 }
 
-/// Returns whether NSEC3PARAM data have further iterations or a salt (RFC 9276, section 3.1).
+/// Returns whether NSEC3PARAM data have additional iterations or a salt (RFC 9276, section 3.1).
 pub fn has_extras(octets: &[u8]) -> bool
     ensures { result ≡ has_extras octets.now }
 {

@@ -1,4 +1,4 @@
-//! What was found in an input.
+//! The outcome of a run.
 ghost use Rattle.std.specs.Prelude.{◌≡◌};
 ghost use Rattle.lint_program.specs.Report.{exit_status, is_faulty};
 
@@ -7,15 +7,15 @@ ghost use Rattle.lint_program.specs.Report.{exit_status, is_faulty};
 pub enum Outcome {
     /// Nothing.
     Clean,
-    /// No fault, but what is seldom meant.
+    /// No fault, but something that is seldom intended.
     Warned,
-    /// A fault at least.
+    /// At least one fault.
     Faulty,
 }
 
 impl Outcome {
-    /// Returns the exit status of the program: 0 where nothing was found, 1 where there is a fault,
-    /// for which `denial nsec` refuses the input, and 3 where there are warnings alone.
+    /// Returns the exit status of the program: 0 if nothing was found, 1 if there is a fault, for
+    /// which `denial nsec` rejects the input, and 3 if there are only warnings.
     pub fn status(&self) -> u8
         ensures { result ≡ exit_status self.now }
     {

@@ -1,4 +1,4 @@
-//! The run of the program, over any reader and any writer.
+//! Runs the program over any reader and any writer.
 ghost use Rattle.std.specs.Prelude.{◌≡◌, ◌⊎◌, ℕ, List, Option, IfErr, IfOk, IsErrOf};
 ghost use Rattle.std.specs.Prelude.{MatchResult, OnOk, IfSome, map, string_bytes};
 ghost use Rattle.std.specs.{Str.Lines.lines, Io.KnownBytes.Appends};
@@ -29,8 +29,8 @@ use domain_hasher::Nsec3Hasher;
 use std::alloc::Global;
 use std::io::{BufRead, Write};
 
-/// Returns what was found but for names that hash alike, where these lines are bad, the records of
-/// the others are sorted, and this is told of them.
+/// Returns the outcome, apart from names with the same hash, for these bad lines, the sorted
+/// records of the other lines, and these notes about them.
 fn outcome_of<'a>(
     alloc: Global,
     apex: &ParsedName<'a>,
@@ -58,9 +58,9 @@ fn outcome_of<'a>(
     }
 }
 
-/// Returns what was found but for names that hash alike, where these lines are bad, these are the
-/// records of the others, and this is told of them; and the names that hash alike. Records of more
-/// than one class are a fault, and none of their names is told.
+/// Returns the outcome, apart from names with the same hash, for these bad lines, the records of
+/// the other lines, and these notes about them. Also returns the names with the same hash. Records
+/// of several classes are a fault, and none of their names are returned.
 fn judged<'a, H: Nsec3Hasher>(
     alloc: Global,
     apex: &ParsedName<'a>,
@@ -88,18 +88,23 @@ fn judged<'a, H: Nsec3Hasher>(
     Ok((outcome, alike))
 }
 
-/// Does what the words ask for: reads the records of the zone at the apex, one a line, and writes
-/// what is wrong with each line that is no record, one a line; then what is wrong with the records
-/// as a zone, and what is no fault but is seldom meant; and at last, where iterations and a salt
-/// stand behind the apex, which names of its NSEC3 chain hash alike with these. Without them
-/// `denial nsec` refuses an input exactly where the outcome is `Faulty`.
+/// Runs the command that the arguments spell. Reads the records of the zone at the apex, one a
+/// line. Writes what is wrong with each line that is not a record, one a line. Then writes what is
+/// wrong with the records as a zone, and what is no fault but is seldom intended. Last, if
+/// iterations and a salt follow the apex, writes which names of its NSEC3 chain have the same hash
+/// with these. Without them, `denial nsec` rejects an input if and only if the outcome is `Faulty`.
 ///
 /// # Errors
 ///
-/// The first of these that applies: `Usage` where the words are no apex, nor an apex with such
-/// parameters; `Read` where the input could not be read; `Signing` where the hasher refuses a name
-/// of the chain; `Write` where the output could not be written; and `OutOfMemory` wherever it
-/// comes. Nothing is written before `Write`. No line and no record is an error.
+/// The first of these that applies:
+///
+/// - `Usage` if the arguments are neither an apex, nor an apex with such parameters;
+/// - `Read` if the input could not be read;
+/// - `Signing` if the hasher fails for a name of the chain;
+/// - `Write` if the output could not be written.
+///
+/// `OutOfMemory` may come at any time. For other errors than `Write` and `OutOfMemory`, nothing is
+/// written. No line and no record makes the run fail.
 pub fn run_lint<R: BufRead, W: Write, H: Nsec3Hasher>(
     alloc: Global,
     words: &[String],
@@ -107,20 +112,21 @@ pub fn run_lint<R: BufRead, W: Write, H: Nsec3Hasher>(
     input: &mut R,
     output: &mut W,
 ) -> Result<Outcome, DenialFault>
-    // What is written tells each line that is neither skipped nor a record, and no other; then each
-    // record of the others that deserves it, by the number of its line and why, and no other; and
-    // with parameters each name of the chain that has the hash of one before it, and no other.
+    // The output reports each line that is neither skipped nor a record, and no other. Then it
+    // reports each record of the others that deserves a note, by the number of its line and why,
+    // and no other. With parameters, it then reports each name of the chain that has the hash of an
+    // earlier one, and no other.
     ensures ok { IfOk result (λ outcome. IfSome (R.remaining input.old) (λ bytes. (apex : Name)
         × (p : Option Params) × (text : Octets) × Asks (map string_bytes words.now) apex p
         × IsTold (H.answer hasher.now) (lines bytes) apex p outcome text
         × Appends (W.contents output.old) (W.contents output.new) text)) }
 
-    // Usage is answered exactly where the words are no such, want of memory aside.
+    // `Usage` if and only if the arguments are no command, unless memory runs out.
     ensures usage { MatchResult result (λ _. IsCommand (map string_bytes words.now))
         (IsRunFault (map string_bytes words.now)) }
 
-    // A hash is refused only where the words ask for parameters, and the hasher refuses the hash of
-    // a name of the chain and of none before it.
+    // `Signing` only if the arguments have parameters, and the hasher fails for a name of the chain
+    // and for none before it.
     ensures refused { (e : SigningError) → IsErrOf result (DenialFault.Signing e)
         → IfSome (R.remaining input.old) (λ bytes.
         IsRefused (H.answer hasher.now) (map string_bytes words.now) (lines bytes) e) }

@@ -1,4 +1,4 @@
-//! The lines of an input, each read by itself.
+//! The lines of an input, each read separately.
 ghost use Rattle.std.specs.{Prelude.{◌≡◌, ◌⊎◌, IfErr, IfOk, IfSome, OnOk, length, map}, Str.Lines.lines};
 ghost use Rattle.denial_program.specs.Fault.{IsReadToEnd};
 ghost use Rattle.denial_program.specs.declared.fault.DenialFault.TheVariants.{OutOfMemory};
@@ -10,7 +10,7 @@ use domain_borrowed::BorrowedRecord;
 use std::alloc::Global;
 use std::io::BufRead;
 
-/// A line that is no record.
+/// A line that is not a record.
 #[derive(Clone, Copy)]
 pub struct BadLine<'a> {
     /// Its number, counted from 1.
@@ -19,7 +19,7 @@ pub struct BadLine<'a> {
     pub octets: &'a [u8],
 }
 
-/// Where a record stands.
+/// The place of a record in the input.
 #[derive(Clone, Copy)]
 pub struct Place {
     /// The number of its line, counted from 1.
@@ -28,14 +28,14 @@ pub struct Place {
     pub has_dot: bool,
 }
 
-/// What the lines of an input are.
+/// The lines of an input.
 #[derive(Drop)]
 pub struct Lines<'a> {
-    /// Those that are no records, in order.
+    /// The bad lines, in order.
     pub bad: Vec<BadLine<'a>>,
-    /// The records of the others, in order.
+    /// The records of the other lines, in order.
     pub records: Vec<BorrowedRecord<'a>>,
-    /// Where each of these stands.
+    /// The place of each of these records.
     pub places: Vec<Place>,
 
     ghost paired: { length places.items ≡ length records.items },
@@ -48,12 +48,12 @@ fn has_dot(line: &[u8]) -> bool {
     first.unwrap_or(line).ends_with(b".")
 }
 
-/// Returns the lines that are no records, and the records of the others, with their octets in the
-/// arena.
+/// Returns the lines that are not records, and the records of the other lines, with their octets in
+/// the arena.
 ///
 /// # Errors
 ///
-/// `Read` where the input could not be read, and `OutOfMemory`.
+/// `Read` if the input could not be read, and `OutOfMemory` if there is no memory.
 pub fn read_lines<'a, R: BufRead>(
     alloc: Global,
     arena: &'a Bump,

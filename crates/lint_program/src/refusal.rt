@@ -1,4 +1,4 @@
-//! The first word of a line that can't be read as what stands there.
+//! Finds the first word of a line that cannot be read as the part of the record at its place.
 
 use crate::wanted::Part;
 use denial_program::{ZoneName, ZoneOctets};
@@ -6,11 +6,11 @@ use domain_base::{Class, FromToken, IterScanner, Rtype, ScanError, Scanner, Ttl}
 use domain_rdata::ZoneRecordData;
 use std::alloc::{AllocError, Global};
 
-/// The refusal of a word that is not taken.
+/// The error for a word that was not read.
 const NOT_TAKEN: ScanError = ScanError::Custom("unknown record data");
 
-/// Returns a refusal of one of so many words: of the last that was taken, or of the next where none
-/// was.
+/// Returns the number of the wrong word among `count` words: the last that was read, or the next if
+/// none was.
 fn refusal_at<S: Scanner>(
     scanner: &mut S,
     count: usize,
@@ -33,8 +33,9 @@ fn refusal_at<S: Scanner>(
     Ok(Some((number, part)))
 }
 
-/// Returns the number of the first of these words that can't be read, where there is one, and what
-/// it was to be. Numbers are counted from 1; where a word is missing it is one more than there are.
+/// Returns the number of the first of these words that cannot be read, and the part of the record
+/// that it should be, or None if all can be read. Numbers are counted from 1; if a word is missing,
+/// the number is one more than there are words.
 pub fn refusal_of(alloc: Global, words: &[&str]) -> Result<Option<(usize, Part)>, AllocError> {
     let count = words.len();
     let mut scanner = IterScanner::<ZoneOctets>::new(words);

@@ -1,4 +1,4 @@
-//! What is told of an input, as it is written.
+//! Writes the report on an input.
 ghost use Rattle.std.specs.{Prelude.{◌≡◌, ◌++◌, All, OnOk, map}, Io.KnownBytes.Appends};
 ghost use Rattle.domain_octets.specs.Octets.{Octets};
 ghost use Rattle.domain_alike.specs.Alike.{pair_of};
@@ -15,7 +15,7 @@ use std::alloc::Global;
 use std::io;
 use std::io::Write;
 
-/// Returns a text as it is printed: a question mark in the place of one with octets that are not.
+/// Returns a text as it is printed: a question mark if it has octets that are not printable.
 fn printed(text: &str) -> &str
     ensures { All IsPrinted result.now }
 {
@@ -29,7 +29,7 @@ fn printed(text: &str) -> &str
     "?"
 }
 
-/// Writes what is told of a bad line.
+/// Writes the line about a bad line.
 fn write_bad<W: Write>(alloc: Global, bad: &BadLine<'_>, output: &mut W) -> io::Result<()>
     ensures { OnOk result ((text : Octets) × IsFault bad.now.number text
         × Appends (W.contents output.old) (W.contents output.new) text) }
@@ -40,7 +40,7 @@ fn write_bad<W: Write>(alloc: Global, bad: &BadLine<'_>, output: &mut W) -> io::
     writeln!(output, "line {number}, word {word}: {told}")
 }
 
-/// Writes what is told of the bad lines, a line of each.
+/// Writes the lines about the bad lines, one for each.
 fn write_faults<W: Write>(alloc: Global, bad: &[BadLine<'_>], output: &mut W) -> io::Result<()>
     ensures { OnOk result ((text : Octets) × AreFaults (map (λ b. b.number) bad.now) text
         × Appends (W.contents output.old) (W.contents output.new) text) }
@@ -51,7 +51,8 @@ fn write_faults<W: Write>(alloc: Global, bad: &[BadLine<'_>], output: &mut W) ->
     Ok(())
 }
 
-/// Writes a note: as a fault of the zone where it is one for which the records are refused.
+/// Writes a note: as a fault of the zone if the records are rejected and the reason may be a fault,
+/// and else as a warning.
 fn write_note<W: Write>(note: &Note, are_refused: bool, output: &mut W) -> io::Result<()>
     ensures { OnOk result ((text : Octets) × IsNote are_refused (mark_of note.now) text
         × Appends (W.contents output.old) (W.contents output.new) text) }
@@ -66,7 +67,7 @@ fn write_note<W: Write>(note: &Note, are_refused: bool, output: &mut W) -> io::R
     }
 }
 
-/// Writes notes, a line of each.
+/// Writes notes, one a line.
 fn write_notes<W: Write>(notes: &[Note], are_refused: bool, output: &mut W) -> io::Result<()>
     ensures { OnOk result ((text : Octets) × AreNotes are_refused (map mark_of notes.now) text
         × Appends (W.contents output.old) (W.contents output.new) text) }
@@ -77,7 +78,7 @@ fn write_notes<W: Write>(notes: &[Note], are_refused: bool, output: &mut W) -> i
     Ok(())
 }
 
-/// Writes names that hash alike, a line of each pair.
+/// Writes names with the same hash, one pair a line.
 #[tactic(auto, using(denial_program::proofs::RunLemmas::appends_more))]
 fn write_alike<W: Write>(pairs: &[Alike<'_>], output: &mut W) -> io::Result<()>
     ensures { OnOk result (Appends (W.contents output.old) (W.contents output.new)
@@ -91,8 +92,8 @@ fn write_alike<W: Write>(pairs: &[Alike<'_>], output: &mut W) -> io::Result<()>
     Ok(())
 }
 
-/// Writes what is told, and hands it on to the device; the outcome is that without names that hash
-/// alike.
+/// Writes the report, and flushes the output. `outcome` is the outcome without names that have the
+/// same hash.
 pub fn write_report<W: Write>(
     alloc: Global,
     bad: &[BadLine<'_>],

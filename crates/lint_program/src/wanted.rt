@@ -1,4 +1,4 @@
-//! What stands at which place of a record.
+//! The parts of a record, by their places in a line.
 
 use domain_base::Rtype;
 
@@ -15,23 +15,23 @@ pub enum Part {
     Type,
     /// Data of a type.
     Data(Rtype),
-    /// Nothing more, behind data of a type.
+    /// Nothing more, after data of a type.
     Nothing(Rtype),
 }
 
-/// A field: what it is called, and how it is written.
+/// A field: its name, and its format.
 pub type Field = (&'static str, &'static str);
 
-/// How a name is written.
+/// The format of a name.
 pub const NAME: &str = "labels of at most 63 octets with dots between them";
 
-/// How octets are written that may be several words.
+/// The format of octets that may be several words.
 pub const BASE64: &str = "Base 64";
 
-/// The same of octets whose text has two digits for each.
+/// The format of octets, as several words, with two digits each.
 pub const BASE16: &str = "Base 16, two digits an octet";
 
-/// How other fields are written.
+/// The formats of other fields.
 const NUMBER8: &str = "a number from 0 to 255";
 
 const NUMBER16: &str = "a number from 0 to 65535";
@@ -66,8 +66,8 @@ const RRSIG_FIELDS: [Field; 9] = [
     ("signature", BASE64),
 ];
 
-/// The fields of NSEC3 data (RFC 5155, section 3.1), of which the first four are those of
-/// NSEC3PARAM data (section 4.1).
+/// The fields of NSEC3 data (RFC 5155, section 3.1). The first four are those of NSEC3PARAM data
+/// (section 4.1).
 const NSEC3_FIELDS: [Field; 6] = [
     ("hash algorithm", NUMBER8),
     ("field of flags", NUMBER8),
@@ -77,8 +77,8 @@ const NSEC3_FIELDS: [Field; 6] = [
     ("type", TYPE),
 ];
 
-/// Returns the fields of the data of a type, of which the last may be several words; empty for a
-/// type whose data have no text of their own.
+/// Returns the fields of the data of a type, of which the last may be several words. Empty for a
+/// type without a presentation format of its own.
 pub fn fields_of(rtype: Rtype) -> &'static [Field] {
     match rtype.to_int() {
         1 => &[(
@@ -110,8 +110,8 @@ pub fn fields_of(rtype: Rtype) -> &'static [Field] {
     }
 }
 
-/// Returns the field of the data of a type that stands at a place, counted from 0: past the last,
-/// the last.
+/// Returns the field at a place in the data of a type, counted from 0, or the last field for any
+/// place after it.
 pub fn field_at(rtype: Rtype, place: usize) -> Option<Field> {
     let fields = fields_of(rtype);
     fields.get(place).or(fields.last()).copied()

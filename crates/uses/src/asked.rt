@@ -10,8 +10,8 @@ use domain_dnssec::{Answer, Error, GenerateNsecConfig, Rtype, Verdict, check_nse
 use std::alloc::Global;
 use std::fmt::Write;
 
-/// What the zone of records says of a name and a type: its chain, in which names below a DNAME are
-/// kept, is made and asked.
+/// Returns what the zone of the records says of a name and a type. Makes its chain, with the names
+/// below a DNAME, and checks it.
 fn say(
     alloc: Global,
     apex: &ZoneName,
@@ -29,8 +29,8 @@ fn say(
     Ok(check_nsec(apex, &nsecs, name, rtype))
 }
 
-/// What the zone of records answers of a name and a type: its chain, in which names below a DNAME
-/// are left out, is made and judged.
+/// Returns what the zone of the records answers for a name and a type. Makes its chain, without the
+/// names below a DNAME, and judges it.
 fn answer(
     alloc: Global,
     apex: &ZoneName,

@@ -1,4 +1,4 @@
-//! A set of types to its bitmap, and back.
+//! From a set of types to its bitmap, and back.
 ghost use Rattle.std.specs.Prelude.{◌≡◌, ◌<◌, ◌==◌, ◌||◌, ℕ, IfOk};
 ghost use Rattle.domain_bitmap.specs.Blocks.{contains_type};
 
@@ -7,7 +7,7 @@ use domain_dnssec::{AppendError, Error, Rtype, RtypeBitmap, RtypeBitmapBuilder};
 use std::alloc::Global;
 use std::fmt::Write;
 
-/// The bitmap of two types.
+/// Returns the bitmap of two types.
 #[tactic(auto, unfolding(domain_bitmap::specs::Blocks::holds))]
 fn pair(alloc: Global, first: Rtype, second: Rtype) -> Result<RtypeBitmap<Vec<u8>>, AppendError>
     ensures { IfOk result (λ bitmap. (t : ℕ) → t < 65536

@@ -1,4 +1,4 @@
-//! A chain from records.
+//! Makes a chain from records.
 ghost use Rattle.std.specs.Prelude.{IfOk};
 ghost use Rattle.domain_dnssec.specs.{AnyOrder.IsChainOf, RawRecords.zone_view, Chain.links_of};
 
@@ -10,7 +10,7 @@ use std::fmt::Write;
 /// A record of an NSEC chain.
 type NsecRecord = Record<ZoneName, Nsec<Vec<u8>, ZoneName>>;
 
-/// The NSEC chain of a zone whose records are handed over in any order.
+/// Returns the NSEC chain of a zone whose records are passed in any order.
 pub fn chain(
     alloc: Global,
     apex: &ZoneName,

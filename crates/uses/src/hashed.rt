@@ -1,4 +1,4 @@
-//! A chain of hashes, with a hasher of one's own.
+//! Makes an NSEC3 chain with a custom hasher.
 ghost use Rattle.std.specs.Prelude.{nat_le, Err, IfOk, if◌then◌else◌};
 ghost use Rattle.domain_dnssec.specs.{Iterated.sha1_answer, Hashed.{as_param_record, config_of}};
 ghost use Rattle.domain_dnssec.specs.{AnyOrder.IsHashedChainOf, RawRecords.zone_view, Hashed.hashed_links_of};
@@ -12,7 +12,7 @@ use domain_dnssec::{
 use std::alloc::Global;
 use std::fmt::Write;
 
-/// SHA-1 of at most so many iterations; above that it refuses, with the number 1 (RFC 9276,
+/// SHA-1 with at most `iterations` iterations. With more, it fails with the number 1 (RFC 9276,
 /// section 3.2).
 #[derive(Clone, Copy, Debug)]
 struct LimitedHasher {
@@ -42,7 +42,7 @@ impl Nsec3Hasher for LimitedHasher {
     }
 }
 
-/// The NSEC3 chain of a zone whose records are handed over in any order, by any hasher.
+/// Returns the NSEC3 chain of a zone whose records are passed in any order, with any hasher.
 fn chain<H: Nsec3Hasher>(
     alloc: Global,
     apex: &ZoneName,
@@ -60,7 +60,7 @@ fn chain<H: Nsec3Hasher>(
     Ok(made)
 }
 
-/// Adds the chain of the small zone with so many iterations to a text.
+/// Appends the chain of the small zone with these iterations to a text.
 fn add_chain(alloc: Global, iterations: u16, text: &mut String) -> Result<(), Error> {
     let apex = ZoneName::from_str(alloc, "example.")?;
     let salt = Nsec3Salt::empty(alloc);
@@ -74,7 +74,7 @@ fn add_chain(alloc: Global, iterations: u16, text: &mut String) -> Result<(), Er
     Ok(())
 }
 
-/// Prints the chain without further iterations, and why there is none with too many.
+/// Prints the chain without additional iterations, and why there is none with too many.
 pub fn show(alloc: Global, text: &mut String) -> Result<(), Error> {
     add_chain(alloc, 0, text)?;
     if let Err(error) = add_chain(alloc, 101, text) {

@@ -1,4 +1,4 @@
-//! The tag of a key.
+//! Computes the tag of a key.
 
 use domain_dnssec::rdata::Dnskey;
 use domain_dnssec::{Error, IterScanner};
@@ -18,7 +18,7 @@ const KEY: [&str; 9] = [
     "Uh6DhweJBjEVv5f2wwjM9XzcnOf+EPbtG9DMBmADjFDc2w/rljwvFw==",
 ];
 
-/// The key that the words spell.
+/// Returns the key that the words spell.
 fn read(alloc: Global, words: &[&str]) -> Result<Dnskey<Vec<u8>>, Error> {
     let mut scanner = IterScanner::<Vec<u8>>::new(words);
     let key = Dnskey::scan(alloc, &mut scanner)?;

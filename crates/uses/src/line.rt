@@ -1,4 +1,4 @@
-//! A record from the words of a line, and back.
+//! Reads a record from the words of a line, and prints it.
 ghost use Rattle.std.specs.Prelude.{◌≡◌};
 
 use crate::zone::{Data, OwnedRecord, ZoneName};
@@ -6,13 +6,13 @@ use domain_dnssec::{Class, Error, FromToken, IterScanner, Record, Rtype, Scanner
 use std::alloc::Global;
 use std::fmt::Write;
 
-/// The words of a record of a type that has no text of its own here.
+/// The words of a record of a type without a presentation format of its own here.
 const UNKNOWN: [&str; 7] = ["example.", "3600", "IN", "TYPE65400", "\\#", "2", "abcd"];
 
 /// The words of an NSEC record.
 const NSEC: [&str; 7] = ["example.", "300", "IN", "NSEC", "b.example.", "NS", "SOA"];
 
-/// The value that the next token spells.
+/// Returns the value that the next token spells.
 fn field<F: FromToken, S: Scanner>(scanner: &mut S) -> Result<F, Error> {
     match F::scan(scanner) {
         Ok(value) => Ok(value),
@@ -20,7 +20,7 @@ fn field<F: FromToken, S: Scanner>(scanner: &mut S) -> Result<F, Error> {
     }
 }
 
-/// The record that tokens spell: owner, TTL, class, type and data.
+/// Returns the record that tokens spell: owner, TTL, class, type and data.
 fn scan<S: Scanner<Name = ZoneName, Octets = Vec<u8>>>(
     alloc: Global,
     scanner: &mut S,
@@ -33,13 +33,13 @@ fn scan<S: Scanner<Name = ZoneName, Octets = Vec<u8>>>(
     Ok(Record::new(owner, class, ttl, data))
 }
 
-/// The record that the words of a line spell.
+/// Returns the record that the words of a line spell.
 fn read<'a>(alloc: Global, words: &'a [&'a str]) -> Result<OwnedRecord, Error> {
     let mut scanner = IterScanner::<Vec<u8>>::new(words);
     scan(alloc, &mut scanner)
 }
 
-/// The record with a TTL of at most so much.
+/// Returns the record with a TTL of at most `most`.
 fn limited(given: OwnedRecord, most: Ttl) -> OwnedRecord
     ensures { result ≡ record {
       owner = given.owner;

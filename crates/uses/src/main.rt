@@ -1,7 +1,7 @@
 //! Twelve uses of the library, each a proved function that calls it, with what it prints.
 //!
-//! `docs/GUIDE.md` quotes them. A program names `domain_dnssec`, which hands on what it needs; the
-//! use with a bitmap names `domain_bitmap` too.
+//! `docs/GUIDE.md` quotes them. A program only depends on `domain_dnssec`, which re-exports what it
+//! needs; the use with a bitmap depends on `domain_bitmap` too.
 #![tactic(auto)]
 
 mod asked;
@@ -21,7 +21,7 @@ use domain_dnssec::Error;
 use std::alloc::Global;
 use std::io;
 
-/// What all the uses print.
+/// Returns what all the uses print.
 fn report(alloc: Global) -> Result<String, Error> {
     let mut text = String::new(alloc);
     chain::show(alloc, &mut text)?;

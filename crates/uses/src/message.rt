@@ -1,4 +1,4 @@
-//! Records of a message, and of a line.
+//! Reads records from a message, and from a line.
 ghost use Rattle.std.specs.Prelude.{IfOk};
 ghost use Rattle.domain_dnssec.specs.{Entry.LineText, Record.RecordAt};
 
@@ -6,8 +6,8 @@ use domain_dnssec::{Error, LineError, MessageError, OwnedRecord, read_record, sc
 use std::alloc::Global;
 use std::fmt::Write;
 
-/// An answer about F.ISI.ARPA with three records from the place 28 on. As in RFC 1035,
-/// section 4.1.4, FOO.F.ISI.ARPA is a label and a pointer, ARPA a pointer, and the root itself.
+/// An answer about F.ISI.ARPA with three records from offset 28 on. As in RFC 1035, section 4.1.4,
+/// FOO.F.ISI.ARPA is a label and a pointer, ARPA a pointer, and the root itself.
 const MESSAGE: [u8; 96] = [
     0, 1, 132, 0, 0, 1, 0, 3, 0, 0, 0, 0, 1, 70, 3, 73, 83, 73, 4, 65, 82, 80, 65, 0, 0, 255, 0, 1,
     3, 70, 79, 79, 192, 12, 0, 15, 0, 1, 0, 0, 14, 16, 0, 4, 0, 10, 192, 12, 192, 18, 0, 6, 0, 1,
@@ -15,7 +15,7 @@ const MESSAGE: [u8; 96] = [
     0, 2, 0, 1, 0, 0, 0, 0, 0, 2, 192, 12,
 ];
 
-/// Behind two octets a pointer to itself, one to a later place, and one to a pointer back to it.
+/// After two octets a pointer to itself, a pointer forward, and a pointer back to that one.
 const POINTERS: [[u8; 6]; 3] = [
     [0, 0, 192, 2, 0, 0],
     [0, 0, 192, 4, 0, 0],
@@ -29,14 +29,14 @@ const LINES: [&str; 3] = [
     "foo.f.isi.arpa. 3600 IN MX 10",
 ];
 
-/// The record that stands at a place of a message, and the place after it.
+/// Returns the record at an offset of a message, and the offset after it.
 fn read(alloc: Global, message: &[u8], at: usize) -> Result<(OwnedRecord, usize), MessageError>
     ensures ok { IfOk result (λ r. RecordAt (λ o. o.items) (λ n. n) message.now at r.0 r.1) }
 {
     read_record(alloc, message, at)
 }
 
-/// The record that a line spells.
+/// Returns the record that a line spells.
 fn scan(alloc: Global, line: &str) -> Result<OwnedRecord, LineError>
     ensures ok { IfOk result (LineText (λ o. o.items) (λ n. n) line.now) }
 {
@@ -58,7 +58,7 @@ fn show_records(alloc: Global, text: &mut String) -> Result<(), Error> {
     Ok(())
 }
 
-/// Prints how many beginnings of the message do not hold its first record.
+/// Prints how many prefixes of the message do not hold its first record.
 fn show_beginnings(alloc: Global, text: &mut String) -> Result<(), Error> {
     let mut short: usize = 0;
     for len in 0..MESSAGE.len() {
@@ -70,7 +70,7 @@ fn show_beginnings(alloc: Global, text: &mut String) -> Result<(), Error> {
     Ok(())
 }
 
-/// Prints what a line spells, or why it spells nothing.
+/// Prints the record that a line spells, or why it spells none.
 fn show_line(alloc: Global, line: &str, text: &mut String) -> Result<(), Error> {
     match scan(alloc, line) {
         Ok(record) => writeln!(text, "{record}")?,
@@ -79,8 +79,8 @@ fn show_line(alloc: Global, line: &str, text: &mut String) -> Result<(), Error> 
     Ok(())
 }
 
-/// Prints the records of the message, how many of its beginnings are too short for the first of
-/// them, why pointers are refused, and what lines spell.
+/// Prints the records of the message, how many of its prefixes are too short for the first record,
+/// why pointers are rejected, and what lines spell.
 pub fn show(alloc: Global, text: &mut String) -> Result<(), Error> {
     show_records(alloc, text)?;
     show_beginnings(alloc, text)?;

@@ -1,5 +1,4 @@
-//! Both halves of denial: what a server picks of a chain to answer with, and what that is judged to
-//! prove.
+//! Both halves of denial: the records of a chain with which a server answers, and what they prove.
 ghost use Rattle.std.specs.Prelude.{◌≡◌, true, IfOk};
 ghost use Rattle.domain_dnssec.specs.{Order.IsOneClass, ZoneData.{minimum_of, rtype_of}, Zone.zone_of};
 ghost use Rattle.domain_dnssec.specs.ZoneAnswer.{zone_answer};
@@ -10,7 +9,7 @@ use domain_dnssec::{Answer, Error, GenerateNsecConfig, NsecChain, Rtype, deny_ns
 use std::alloc::Global;
 use std::fmt::Write;
 
-/// Prints the record at a place of a chain, where one is given.
+/// Prints the record at a place of a chain, if one is given.
 fn show_record(
     chain: &NsecChain<'_, ZoneName>,
     place: Option<usize>,
@@ -26,8 +25,8 @@ fn show_record(
     Ok(())
 }
 
-/// What a zone of one class answers to a question, after the records of its chain that prove it,
-/// one a line.
+/// Returns what a zone of one class answers to a question, after printing the records of its chain
+/// that prove it, one a line.
 fn serve<'z>(
     alloc: Global,
     apex: &'z ZoneName,

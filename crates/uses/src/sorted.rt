@@ -1,4 +1,4 @@
-//! Sorted records that are kept up to date.
+//! Keeps sorted records up to date.
 ghost use Rattle.std.specs.Prelude.{◌≡◌, OnErr};
 
 use crate::zone::{Data, OwnedRecord, Zone, ZoneName, records};
@@ -8,7 +8,7 @@ use std::alloc::Global;
 use std::fmt::Write;
 use std::net::Ipv4Addr;
 
-/// Puts a record in. Where an equal one stands there, the zone stays as it was.
+/// Inserts a record. If an equal one is there, the zone stays as it was.
 fn put(zone: &mut Zone, record: OwnedRecord) -> Result<(), Error>
     ensures { OnErr result (zone.new ≡ zone.old) }
 {
@@ -16,14 +16,14 @@ fn put(zone: &mut Zone, record: OwnedRecord) -> Result<(), Error>
     Ok(())
 }
 
-/// A record of a host.
+/// Returns a record of a host.
 fn host(alloc: Global, last: u8) -> Result<OwnedRecord, Error> {
     let owner = ZoneName::from_str(alloc, "mail.office.example.")?;
     let data = Data::A(A::new(Ipv4Addr::new(192, 0, 2, last)));
     Ok(Record::new(owner, Class::IN, Ttl::from_hours(1), data))
 }
 
-/// Prints what becomes of a zone.
+/// Prints how a zone changes.
 pub fn show(alloc: Global, text: &mut String) -> Result<(), Error> {
     let mut zone = Zone::from_vec(records(alloc)?)?;
     put(&mut zone, host(alloc, 7)?)?;

@@ -9,7 +9,7 @@ use std::fmt::Write;
 /// A record of an NSEC chain.
 type NsecRecord = Record<ZoneName, Nsec<Vec<u8>, ZoneName>>;
 
-/// The NSEC record that a line spells.
+/// Returns the NSEC record that a line spells.
 fn nsecs(alloc: Global, line: &str) -> Result<Vec<NsecRecord>, Error> {
     let mut nsecs = Vec::new(alloc);
     let (owner, class, ttl, data) = scan_record(alloc, line)?.into_parts();
@@ -19,14 +19,14 @@ fn nsecs(alloc: Global, line: &str) -> Result<Vec<NsecRecord>, Error> {
     Ok(nsecs)
 }
 
-/// What the records of a chain prove of a name and a type.
+/// Returns what the records of a chain prove about a name and a type.
 fn ask(apex: &ZoneName, nsecs: &[NsecRecord], name: &ZoneName, rtype: Rtype) -> Verdict
     ensures { IsProved (links_of (λ name. name) nsecs.now) apex.now name.now rtype result }
 {
     check_nsec(apex, nsecs, name, rtype)
 }
 
-/// Prints what one record proves of three names.
+/// Prints what one record proves about three names.
 pub fn show(alloc: Global, text: &mut String) -> Result<(), Error> {
     let apex = ZoneName::from_str(alloc, "example.")?;
     let nsecs = nsecs(alloc, "example. 300 IN NSEC mail.office.example. NS SOA")?;

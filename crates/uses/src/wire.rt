@@ -1,4 +1,4 @@
-//! Chains as messages have their records.
+//! Writes chains in wire format.
 ghost use Rattle.std.specs.Prelude.{◌≡◌, List, IfOk};
 ghost use Rattle.domain_dnssec.specs.{Chain.{IsChain, Link}, Order.IsOneClass, Zone.zone_of, Wire.nsecs_octets};
 ghost use Rattle.domain_dnssec.specs.ZoneData.{minimum_of, rtype_of};
@@ -12,7 +12,7 @@ use domain_dnssec::{
 use std::alloc::Global;
 use std::fmt::Write;
 
-/// The octets of the NSEC chain of a zone of one class.
+/// Returns the octets of the NSEC chain of a zone of one class.
 fn octets(
     alloc: Global,
     apex: &ZoneName,
@@ -30,7 +30,7 @@ fn octets(
     Ok(octets)
 }
 
-/// The octets of the NSEC3 chain of a zone of one class, and of its NSEC3PARAM record.
+/// Returns the octets of the NSEC3 chain of a zone of one class, and of its NSEC3PARAM record.
 fn hashed_octets(alloc: Global, apex: &ZoneName, zone: &Zone) -> Result<Vec<u8>, Error>
     requires { IsOneClass zone.now }
 {
@@ -43,7 +43,7 @@ fn hashed_octets(alloc: Global, apex: &ZoneName, zone: &Zone) -> Result<Vec<u8>,
     Ok(octets)
 }
 
-/// Adds octets to a text, in hexadecimal digits.
+/// Appends octets to a text, in hexadecimal digits.
 fn add_octets(octets: &[u8], text: &mut String) -> Result<(), Error> {
     for octet in octets {
         write!(text, "{octet:02x}")?;
@@ -52,7 +52,7 @@ fn add_octets(octets: &[u8], text: &mut String) -> Result<(), Error> {
     Ok(())
 }
 
-/// Prints both chains of the small zone as a message would have them.
+/// Prints both chains of the small zone in wire format.
 pub fn show(alloc: Global, text: &mut String) -> Result<(), Error> {
     let apex = ZoneName::from_str(alloc, "example.")?;
     let zone = zone(alloc)?;

@@ -9,7 +9,7 @@ use domain_dnssec::{
 use std::alloc::Global;
 use std::net::Ipv4Addr;
 
-/// A name in octets of its own.
+/// A name with its own octets.
 pub type ZoneName = Name<Vec<u8>>;
 
 /// The data of a record.
@@ -18,10 +18,10 @@ pub type Data = ZoneRecordData<Vec<u8>, ZoneName>;
 /// A record of a zone.
 pub type OwnedRecord = Record<ZoneName, Data>;
 
-/// A zone whose records stand in canonical order.
+/// A zone whose records are in canonical order.
 pub type Zone = SortedRecords<ZoneName, Data>;
 
-/// The SOA of the zone.
+/// Returns the SOA of the zone.
 fn soa(alloc: Global) -> Result<Data, Error> {
     let (hour, day) = (Ttl::from_hours(1), Ttl::from_hours(24));
     let primary = ZoneName::from_str(alloc, "ns.example.")?;
@@ -31,7 +31,7 @@ fn soa(alloc: Global) -> Result<Data, Error> {
     Ok(Data::Soa(soa))
 }
 
-/// The octets of a CAA record: a type that is known by its name alone.
+/// Returns the octets of a CAA record, a type of which only the name is known.
 fn caa(alloc: Global) -> Result<Data, Error> {
     let octets = Vec::from_slice(alloc, b"\x00\x05issueca.example")?;
     Ok(Data::from_octets(alloc, Rtype::CAA, octets)?)
@@ -49,7 +49,7 @@ fn add(
     Ok(())
 }
 
-/// The records of `example.`, in no order.
+/// Returns the records of `example.`, in no particular order.
 pub fn records(alloc: Global) -> Result<Vec<OwnedRecord>, Error> {
     let address = A::new(Ipv4Addr::new(192, 0, 2, 1));
     let (host, apex) = ("mail.office.example.", "example.");
@@ -64,7 +64,7 @@ pub fn records(alloc: Global) -> Result<Vec<OwnedRecord>, Error> {
     Ok(records)
 }
 
-/// The zone `example.`, sorted.
+/// Returns the zone `example.`, sorted.
 pub fn zone(alloc: Global) -> Result<Zone, Error>
     ensures { IfOk result (λ zone. IsOneClass zone) }
 {
