@@ -4,8 +4,7 @@
 //! `alike_names` returns each name of the chain that has the hash of an earlier name in canonical
 //! order, with the first name that has it. `first_alike` returns the first of them. The names of a
 //! chain are its original owner names and the empty non-terminals above them, as `domain_nsec3`
-//! hashes them. The records are those of borrowed octets. The definitions are in
-//! `specs/Alike.antt`.
+//! hashes them. The records borrow their octets. The definitions are in `specs/Alike.antt`.
 #![tactic(auto)]
 
 mod alike;

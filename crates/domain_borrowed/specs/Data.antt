@@ -80,7 +80,7 @@ hash_values k =
 abbrev pub nsec3_record : HashedLink → RawRecord
 nsec3_record k = raw k.owner k.class k.ttl rtypes.nsec3 (octets_of nsec3 (hash_values k))
 
--- the fields and the bitmap of NSEC3 data fit
+-- the values of NSEC3 data fit their fields
 abbrev pub IsNsec3 : HashedLink → Type 0
 IsNsec3 k = Fits nsec3 (hash_values k)
 

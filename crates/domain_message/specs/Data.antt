@@ -24,19 +24,19 @@ parts_of rtype =
     else (if rtype == rtypes.mx then Some (part.Plain 2 ∷ part.Name ∷ [])
     else None)))
 
--- these are the count octets of the message from place at, up to place end
+-- these are the `count` octets of the message from place `at`, up to place `end`
 pub record OctetsAt (message : Octets) (at count : ℕ) (octets : Octets) (end : ℕ) : Type 0 where
   pub inside : at + count ≤ length message
   pub are : octets ≡ take count (drop at message)
   pub end_is : end ≡ at + count
 
--- the part of the message from place at up to place end has these octets without compression
+-- the part of the message from place `at` up to place `end` has these octets without compression
 abbrev pub PartAt : Octets → Part → ℕ → Octets → ℕ → Type 0
 PartAt message (part.Plain count) at octets end = OctetsAt message at count octets end
 PartAt message part.Name at octets end =
     (name : Name) × NameAt message at name end × (octets ≡ wire_of name)
 
--- the parts of the message, one after another, from place at up to place end, have these octets
+-- the parts of the message, one after another, from place `at` up to place `end`, have these octets
 -- without compression
 abbrev pub PartsAt : Octets → List Part → ℕ → Octets → ℕ → Type 0
 PartsAt message [] at octets end = (octets ≡ []) × (end ≡ at)
@@ -58,7 +58,7 @@ PartsFault message (first ∷ parts) at fault =
     ⊎ ((front : Octets) × (between : ℕ) × PartAt message first at front between
     × PartsFault message parts between fault)
 
--- the count octets at a place are data of a type with these parts, and have these octets without
+-- the `count` octets at a place are data of a type with these parts, and have these octets without
 -- compression
 abbrev pub PlacedAt : Octets → Option (List Part) → ℕ → ℕ → Octets → Type 0
 PlacedAt message None at count octets = OctetsAt message at count octets (at + count)

@@ -10,12 +10,12 @@ use Rattle.domain_message.specs.declared.name.NameFault.TheVariants as name_faul
 abbrev pub pointer_octets : ℕ → Octets
 pointer_octets target = (192 + target / 256) ∷ (target % 256) ∷ []
 
--- a pointer from labels at place at to an earlier place
+-- a pointer from labels at place `at` to an earlier place
 pub record IsBackward (at target : ℕ) : Type 0 where
   pub earlier : target < at
   pub fits : target < 16384
 
--- the fault after labels that began at place at, if used octets of the name have been read
+-- the fault after labels that began at place `at`, if `used` octets of the name have been read
 pub data EndFault (at used : ℕ) : Octets → NameFault → Type 0 where
   no_octet : EndFault at used [] name_fault.ShortInput
   half_pointer : (high : ℕ) → 192 ≤ high → EndFault at used (high ∷ []) name_fault.ShortInput
@@ -43,9 +43,9 @@ abbrev pub up_to : ℕ → Outcome → Outcome
 up_to end (Ok r) = Ok (r.0, end)
 up_to end (Err fault) = Err fault
 
--- the result of labels that began at place start and continue at place at, after used octets of the
--- name; there is the root, a label with room for the root after it, a pointer to an earlier place
--- where they continue, or a fault
+-- the result of labels that began at place `start` and continue at place `at`, after `used` octets
+-- of the name; there is the root, a label with room for the root after it, a pointer to an earlier
+-- place where they continue, or a fault
 pub data ComesTo (message : Octets) : ℕ → ℕ → ℕ → Outcome → Type 0 where
   root : (start at used : ℕ) (after : Octets) → drop at message ≡ 0 ∷ after
       → ComesTo message start at used (Ok ([], at + 1))
@@ -60,11 +60,11 @@ pub data ComesTo (message : Octets) : ℕ → ℕ → ℕ → Outcome → Type 0
   at_fault : (start at used : ℕ) (fault : NameFault) → EndFault start used (drop at message) fault
       → ComesTo message start at used (Err fault)
 
--- the message holds this name from place at up to place end
+-- the message holds this name from place `at` up to place `end`
 pub record NameAt (message : Octets) (at : ℕ) (name : Name) (end : ℕ) : Type 0 where
   pub stands : ComesTo message at at 0 (Ok (name, end))
   pub valid : IsName name
 
--- the first fault of the labels at a place, after used octets of the name
+-- the first fault of the labels at a place, after `used` octets of the name
 abbrev pub LabelsFault : Octets → ℕ → ℕ → NameFault → Type 0
 LabelsFault message at used fault = ComesTo message at at used (Err fault)

@@ -17,7 +17,7 @@ use Rattle.domain_message.specs.declared.name.NameFault.TheVariants as name_faul
 abbrev pub numbers : Layout
 numbers = one short ▸ one short ▸ one long ▸ one short
 
--- the message holds this owner and these numbers from place at up to another place
+-- the message holds this owner and these numbers from place `at` up to another place
 pub record HeaderAt (message : Octets) (at : ℕ) (owner : Name) (v : Values numbers)
     (place : ℕ) : Type 0 where
   pub owner_end : ℕ
@@ -54,7 +54,7 @@ pub data HeaderFault (message : Octets) (at : ℕ) (fault : NameFault) : Type 0 
       → length message < owner_end + 10 → fault ≡ name_fault.ShortInput
       → HeaderFault message at fault
 
--- the count octets at a place are these data
+-- the `count` octets at a place are these data
 pub record IsDataAt {O N : Type 0} (octets : O → Octets) (labels : N → Name) (message : Octets)
     (rtype place count : ℕ) (d : ZoneRecordData O N) : Type 0 where
   pub wire : Octets
@@ -62,7 +62,7 @@ pub record IsDataAt {O N : Type 0} (octets : O → Octets) (labels : N → Name)
   pub placed : DataAt message rtype place count wire
   pub read : AreData octets labels rtype wire d
 
--- the message holds this record from place at up to place end
+-- the message holds this record from place `at` up to place `end`
 pub record RecordAt {O N : Type 0} (octets : O → Octets) (labels : N → Name) (message : Octets)
     (at : ℕ) (r : Record N (ZoneRecordData O N)) (end : ℕ) : Type 0 where
   pub rtype : ℕ
@@ -84,8 +84,8 @@ OctetsRefusal limit known wire ShortBuf =
 OctetsRefusal limit known wire OutOfMemory = Unit {0}
 OctetsRefusal limit known wire _ = ⊥
 
--- why no data of a type are read from count octets at a place: the message ends within them; a part
--- of data that may be compressed has a fault; the parts end elsewhere; or their octets without
+-- why no data of a type are read from `count` octets at a place: the message ends within them; a
+-- part of data that may be compressed has a fault; the parts end elsewhere; or their octets without
 -- compression are rejected
 pub data RefusesData (limit : Option ℕ) (message : Octets) (rtype place count : ℕ)
     (error : MessageError) : Type 0 where

@@ -34,7 +34,7 @@ pub enum LineError {
     Class(ScanError),
     /// The fourth token is missing, or is not the name of a known type.
     Rtype(ScanError),
-    /// The tokens after it do not begin with data of the type.
+    /// The tokens after these four do not begin with data of the type.
     RecordData(ScanError),
     /// There are tokens after the data.
     Trailing,
@@ -92,8 +92,8 @@ impl LineError {
 ///
 /// # Errors
 ///
-/// That of the first part that is missing or rejected, with its `ScanError`; `Trailing` if tokens
-/// are left after the data.
+/// The error of the first part that is missing or rejected, with its `ScanError`; `Trailing` if
+/// tokens are left after the data.
 #[tactic(auto, unfolding(crate::specs::Entry::RefusesBody))]
 pub fn scan_behind_owner<W: Drop, O, N, S: Scanner<Name = N, Octets = O>>(
     alloc: Global,
@@ -137,8 +137,8 @@ where
 ///
 /// # Errors
 ///
-/// That of the first part that is missing or rejected, with its `ScanError`; `Trailing` if tokens
-/// are left after the data.
+/// The error of the first part that is missing or rejected, with its `ScanError`; `Trailing` if
+/// tokens are left after the data.
 pub fn scan_entry<O: FromBuilder + Drop, N: MakeName + Drop, S: Scanner<Name = N, Octets = O>>(
     alloc: Global,
     scanner: &mut S,
@@ -184,7 +184,7 @@ pub fn is_no_entry(line: &[u8]) -> bool
 /// # Errors
 ///
 /// - `NoEntry` if the line is blank, or its first word begins with a semicolon.
-/// - Otherwise that of the first part that is missing or rejected, with its `ScanError`, and
+/// - Otherwise the error of the first part that is missing or rejected, with its `ScanError`, and
 ///   `Trailing` if words are left after the data.
 /// - `OutOfMemory` if there is no memory for the words of the line.
 #[tactic(auto, using(std::proofs::lemmas::Grind::common_steps, crate::proofs::OneLineLemmas::line_refused))]
