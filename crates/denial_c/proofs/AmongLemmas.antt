@@ -16,7 +16,7 @@ use Rattle.sha1.specs.Sha1.{digest_bytes, sha1}
 use Rattle.domain_hasher.specs.declared.error.Nsec3HashError.{Nsec3HashError, TheVariants.{Hasher, AppendError, OwnerHashError, Nsec3NameTooLong}}
 use Rattle.domain_hasher.specs.declared.error.Nsec3HashError.TheVariants.{CollisionDetected, OutOfMemory}
 use Rattle.domain_sha1.specs.Iterated.{iterated, sha1_answer}
-use Rattle.domain_records.specs.declared.error.SigningError.TheVariants as signing_error
+use Rattle.domain_groups.specs.declared.error.SigningError.TheVariants as signing_error
 use Rattle.domain_hasher.specs.declared.error.Nsec3HashError.TheVariants as hash_error
 
 -- ---- Records that are read one after another, of which some are kept.

@@ -9,13 +9,14 @@ use Rattle.domain_nsec.specs.{Chain.{Link, IsChain, IsFirstFault}, declared.conf
 use Rattle.domain_nsec3.specs.Chain.{ChainRecords, IsChainParam, IsHashedChain, excludes, ChainConfig, Parameters}
 use Rattle.domain_nsec3.specs.{Chain.IsFirstFault as IsFirstHashedFault, View.hash_by, declared.config.Nsec3ParamTtlMode.Nsec3ParamTtlMode}
 use Rattle.domain_hasher.specs.declared.error.Nsec3HashError.{Nsec3HashError}
-use Rattle.domain_records.specs.{Order.{IsInOrder, IsOneClass}, declared.error.SigningError.SigningError}
+use Rattle.domain_records.specs.Order.{IsInOrder, IsOneClass}
+use Rattle.domain_groups.specs.declared.error.SigningError.{SigningError}
 use Rattle.domain_sha1.specs.Iterated.{sha1_answer}
 use Rattle.domain_dnssec.specs.{AnyOrder.Sorts, RawRecords.raw_view, Wire.{nsecs_octets, nsec3s_octets}}
 use Rattle.denial_c.specs.{Result.{IsSpelled, Spells}, declared.{fault.Fault.Fault, nsec3_chain.Hashing.Hashing}}
 use Rattle.domain_alike.specs.Alike.{IsFirstPair, Pair}
 use Rattle.domain_hasher.specs.declared.error.Nsec3HashError.TheVariants as hash_error
-use Rattle.domain_records.specs.declared.error.SigningError.TheVariants as signing_error
+use Rattle.domain_groups.specs.declared.error.SigningError.TheVariants as signing_error
 use Rattle.denial_c.specs.declared.fault.Fault.TheVariants as fault
 
 -- ---- Octets as the records of a zone, which are all of one class, or the first place where they

@@ -6,7 +6,8 @@ use Rattle.domain_octets.specs.Octets.{Octets}
 use Rattle.domain_names.specs.Name.{Name, Tokens}
 use Rattle.domain_nsec.specs.Chain.{Link, usual_config, IsChain, IsFirstFault}
 use Rattle.domain_nsec3.specs.{Chain.{ChainRecords, IsChainParam, IsHashedChain}, View.HasherAnswer, declared.config.Nsec3ParamTtlMode.TheVariants.Soa}
-use Rattle.domain_records.specs.{Order.IsOneClass, declared.error.SigningError.{SigningError, TheVariants.OutOfMemory as NoRoom}}
+use Rattle.domain_records.specs.Order.{IsOneClass}
+use Rattle.domain_groups.specs.declared.error.SigningError.{SigningError, TheVariants.OutOfMemory as NoRoom}
 use Rattle.domain_borrowed.specs.Data.{RawRecord, zone_of_raw}
 use Rattle.domain_any_order.specs.AnyOrder.{AreMixed}
 use Rattle.denial_program.specs.{Fault.{IsOfRecords, IsReadingFault, IsReadToEnd}, Answer.{fault_of_zone, usual_nsec3_config, HasNoAnswer, HasNoNsecs}}

@@ -2,8 +2,9 @@
 use Rattle.std.specs.Prelude.{◌≡◌, ◌⊎◌, true, false, List, None, Some}
 use Rattle.domain_octets.specs.Octets.{Octets}
 use Rattle.domain_names.specs.Name.{Name, Tokens}
-use Rattle.domain_records.specs.{Order.IsOneClass, declared.error.SigningError.SigningError}
-use Rattle.domain_records.specs.declared.error.SigningError.TheVariants as signing_error
+use Rattle.domain_records.specs.Order.{IsOneClass}
+use Rattle.domain_groups.specs.declared.error.SigningError.{SigningError}
+use Rattle.domain_groups.specs.declared.error.SigningError.TheVariants as signing_error
 use Rattle.domain_nsec.specs.Chain.{usual_config}
 use Rattle.domain_nsec3.specs.{Chain.ChainConfig, View.{HasherAnswer, hash_by, parameters_of}, declared.config.Nsec3ParamTtlMode.TheVariants.Soa}
 use Rattle.domain_borrowed.specs.Data.{RawRecord}

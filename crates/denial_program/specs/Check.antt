@@ -4,7 +4,7 @@ use Rattle.domain_octets.specs.Octets.{Octets}
 use Rattle.domain_base.specs.Types as rtypes
 use Rattle.domain_names.specs.{Name.{last_labels, same_name, Name}, Text.name_text}
 use Rattle.domain_hasher.specs.declared.error.Nsec3HashError.TheVariants.{Hasher}
-use Rattle.domain_records.specs.declared.error.SigningError.{SigningError, TheVariants.Nsec3HashingError}
+use Rattle.domain_groups.specs.declared.error.SigningError.{SigningError, TheVariants.Nsec3HashingError}
 use Rattle.domain_nsec.specs.Chain.{Link}
 use Rattle.domain_nsec3.specs.{Chain.{HashedLink, ParamRecord}, View.HasherAnswer}
 use Rattle.domain_checker.specs.{HashedReading.IsHashedChecked, HashedVerdict.{IsFirstRefusal, links_with, HashedRecords}}

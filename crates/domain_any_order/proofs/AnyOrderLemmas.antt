@@ -5,7 +5,8 @@ use Rattle.domain_names.specs.Name.{Name}
 use Rattle.domain_nsec.specs.{declared.config.GenerateNsecConfig.GenerateNsecConfig, Chain.IsFirstFault}
 use Rattle.domain_nsec3.specs.Chain.{ChainConfig, IsFirstFault as IsFirstHashedFault}
 use Rattle.domain_any_order.specs.AnyOrder.{Sorts, OfZone, HasNoChain, HasNoHashedChain, View, chain_error_of, zone_seen}
-use Rattle.domain_records.specs.{Order.IsOneClass, declared.error.SigningError.SigningError}
+use Rattle.domain_records.specs.Order.{IsOneClass}
+use Rattle.domain_groups.specs.declared.error.SigningError.{SigningError}
 use Rattle.domain_zone.specs.Zone.{OwnersNeverDescend, ZoneRecord}
 
 -- where the zone of the sorted set has a fault, that is why the given records have no chain

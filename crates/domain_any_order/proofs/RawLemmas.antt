@@ -5,7 +5,8 @@ use Rattle.domain_octets.specs.Octets.{Octets}
 use Rattle.domain_names.specs.Name.{Name}
 use Rattle.domain_record.specs.{Record.{record_cmp, record_cmp_total}, declared.record.Record.Record}
 use Rattle.domain_rdata.specs.{Zone.{minimum_of, rtype_of}, declared.zone_record_data.ZoneRecordData.{ZoneRecordData, TheVariants.{Soa, Unknown}}}
-use Rattle.domain_records.specs.{Order.IsOneClass, declared.error.SigningError.{SigningError, TheVariants.OutOfMemory as NoRoom}}
+use Rattle.domain_records.specs.Order.{IsOneClass}
+use Rattle.domain_groups.specs.declared.error.SigningError.{SigningError, TheVariants.OutOfMemory as NoRoom}
 use Rattle.domain_zone.specs.Zone.{zone_of, ZoneRecord}
 use Rattle.domain_borrowed.{proofs.DataLemmas.minimum_last, specs.Data.{RawRecord, data_cmp as raw_cmp, data_cmp_total as raw_cmp_total}}
 use Rattle.domain_borrowed.specs.Data.{minimum_of as raw_minimum, zone_of_raw}

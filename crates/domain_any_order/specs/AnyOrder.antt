@@ -1,8 +1,9 @@
 -- The chain of a zone whose records come in any order, and when there is none.
 use Rattle.std.specs.{Prelude.{◌≡◌, ◌≢◌, ℕ, List, Option, true}, declared.cmp.Ordering.Ordering}
 use Rattle.domain_record.specs.{Record.record_cmp, declared.record.Record.Record}
-use Rattle.domain_records.specs.{Order.{IsOneClass, IsUnion}, declared.error.SigningError.SigningError}
-use Rattle.domain_records.specs.declared.error.SigningError.TheVariants as signing_error
+use Rattle.domain_records.specs.Order.{IsOneClass, IsUnion}
+use Rattle.domain_groups.specs.declared.error.SigningError.{SigningError}
+use Rattle.domain_groups.specs.declared.error.SigningError.TheVariants as signing_error
 use Rattle.domain_names.specs.Name.{Name}
 use Rattle.domain_nsec.specs.{Chain.{Link, IsChain, IsFaultless, IsFirstFault}, declared.config.GenerateNsecConfig.GenerateNsecConfig}
 use Rattle.domain_nsec3.specs.Chain.{HashedLink, IsChainParam, IsHashedChain, ParamRecord, ChainConfig, IsReady}

@@ -13,9 +13,10 @@ use Rattle.domain_codecs.specs.declared.codec.DecodeError.TheVariants as decode_
 use Rattle.domain_octets.specs.declared.error.{AppendError.AppendError, ParseError.ParseError}
 use Rattle.domain_octets.specs.declared.error.AppendError.TheVariants as append_error
 use Rattle.domain_octets.specs.declared.error.ParseError.TheVariants as parse_error
-use Rattle.domain_records.specs.declared.error.{InsertError.InsertError, SigningError.SigningError}
+use Rattle.domain_records.specs.declared.error.InsertError.{InsertError}
+use Rattle.domain_groups.specs.declared.error.SigningError.{SigningError}
 use Rattle.domain_records.specs.declared.error.InsertError.TheVariants as insert_error
-use Rattle.domain_records.specs.declared.error.SigningError.TheVariants as signing_error
+use Rattle.domain_groups.specs.declared.error.SigningError.TheVariants as signing_error
 use Rattle.domain_hasher.specs.declared.{error.Nsec3HashError.Nsec3HashError, hasher.HasherError.HasherError}
 use Rattle.domain_hasher.specs.declared.error.Nsec3HashError.TheVariants as hash_error
 use Rattle.domain_hasher.specs.declared.hasher.HasherError.TheVariants as hasher_error

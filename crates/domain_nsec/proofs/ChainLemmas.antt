@@ -6,8 +6,8 @@ use Rattle.domain_nsec.specs.{Chain.{IsChain, IsFaultless, IsFirstFault, Link, i
 use Rattle.domain_nsec.specs.Meaning.{IsCoveredBy, IsCycle, IsMatchedOrCoveredOnce, MeansTheZone, MirrorsZone, OwnersAscend, TellsEmpty, TellsEncloser}
 use Rattle.domain_nsec.specs.{Meaning.last_next, declared.config.GenerateNsecConfig.GenerateNsecConfig}
 use Rattle.domain_octets.specs.Octets.{Octets}
-use Rattle.domain_records.specs.declared.error.SigningError.{SigningError, TheVariants.{EmptyRecordSlice, MultipleTtlValues, Nsec3HashingError, OutOfMemory}}
-use Rattle.domain_records.specs.declared.error.SigningError.TheVariants.{SoaRecordCouldNotBeDetermined}
+use Rattle.domain_groups.specs.declared.error.SigningError.{SigningError, TheVariants.{EmptyRecordSlice, MultipleTtlValues, Nsec3HashingError, OutOfMemory}}
+use Rattle.domain_groups.specs.declared.error.SigningError.TheVariants.{SoaRecordCouldNotBeDetermined}
 use Rattle.domain_zone.proofs.{GivenLemmas.{none_left_out, soa_owned}, NameLemmas.{before_left, before_order, before_right, below_between, below_from}}
 use Rattle.domain_zone.proofs.NameLemmas.{below_itself, below_longer, below_trans, either_way, lowered_below, one_lowered, same_is, same_itself, same_lowered}
 use Rattle.domain_zone.proofs.{NameLemmas.shared_is, PairLemmas.{In, IsApart, IsAscending, IsOnly, all_in, gap, in_at, in_map, le_lt, next_is}}

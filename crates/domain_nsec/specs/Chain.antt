@@ -2,8 +2,8 @@
 -- how its records are seen.
 use Rattle.std.specs.Prelude.{ℕ, Bool, true, false, ◌&&◌, ◌||◌, ◌==◌, List, [], ◌∷◌, map, slice_index_or, Some, None, ◌≡◌, ◌≢◌, All}
 use Rattle.domain_bitmap.specs.Bitmap.{bitmap_octets}
-use Rattle.domain_records.specs.declared.error.SigningError.{SigningError, TheVariants.{EmptyRecordSlice, SoaRecordCouldNotBeDetermined}}
-use Rattle.domain_records.specs.declared.error.SigningError.TheVariants.{MultipleTtlValues, Nsec3HashingError, OutOfMemory}
+use Rattle.domain_groups.specs.declared.error.SigningError.{SigningError, TheVariants.{EmptyRecordSlice, SoaRecordCouldNotBeDetermined}}
+use Rattle.domain_groups.specs.declared.error.SigningError.TheVariants.{MultipleTtlValues, Nsec3HashingError, OutOfMemory}
 use Rattle.domain_zone.specs.{Covering.pairs, Zone.{chain_ttl, soa_of, ZoneRecord, unoccluded_owners, is_zone_cut, records_of, lists_type}}
 use Rattle.domain_zone.specs.{Zone.has_unequal_ttls, declared.soa.ApexSoa.ApexSoa}
 use Rattle.domain_names.specs.Name.{same_name, Name}

@@ -1,6 +1,6 @@
 //! The NSEC chain of a zone. Its records are made one by one, or all at once.
 ghost use Rattle.std.specs.Prelude.{◌≡◌, ◌≤◌, ◌↔◌, [], length, slice_index_or, IsTrue, IfErr, IfOk, IfNone, IfSome, OnOk};
-ghost use Rattle.domain_records.specs.Order.{IsOneClass, IsInOrder};
+ghost use Rattle.domain_groups.specs.InOrder.{IsOneClass, IsInOrder};
 ghost use Rattle.domain_zone.specs.Zone.{zone_of};
 ghost use Rattle.domain_nsec.specs.Chain.{Link, links_in, IsChain, IsFaultless, IsFirstFault, as_link};
 ghost use Rattle.domain_nsec.specs.{Chain.links_of, Meaning.MeansTheZone};
@@ -9,9 +9,9 @@ use crate::GenerateNsecConfig;
 use domain_base::{MakeName, ParsedName, ToName};
 use domain_bitmap::RtypeBitmaps;
 use domain_chain_rdata::Nsec;
+use domain_groups::{RecordsIter, SigningError};
 use domain_octets::{FromBuilder, GrowingBuilder, OutOfMemory};
 use domain_record::{Record, ZoneData};
-use domain_records::{RecordsIter, SigningError};
 use domain_zone::{ApexSoa, find_soa, list_owners};
 use std::alloc::Global;
 use std::marker::Model;

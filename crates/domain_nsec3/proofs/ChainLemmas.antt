@@ -14,8 +14,8 @@ use Rattle.domain_nsec3.specs.{Meaning.{IsRecordOf, MeansTheZone, OwnersAscend, 
 use Rattle.domain_nsec3.specs.Steps.{AreUsable, AreWithEmpty, Common, HasAlikeNeighbours, IsFirstRefused, IsHashOf, IsHashingFault, link_to, links_in, name_at}
 use Rattle.domain_nsec3.specs.declared.{chain.HashedChain.HashedChain, hash.Hashed.Hashed}
 use Rattle.domain_octets.specs.Octets.{Octets}
-use Rattle.domain_records.specs.declared.error.SigningError.{SigningError, TheVariants.{EmptyRecordSlice, MultipleTtlValues, Nsec3HashingError, OutOfMemory}}
-use Rattle.domain_records.specs.declared.error.SigningError.TheVariants.{SoaRecordCouldNotBeDetermined}
+use Rattle.domain_groups.specs.declared.error.SigningError.{SigningError, TheVariants.{EmptyRecordSlice, MultipleTtlValues, Nsec3HashingError, OutOfMemory}}
+use Rattle.domain_groups.specs.declared.error.SigningError.TheVariants.{SoaRecordCouldNotBeDetermined}
 use Rattle.domain_zone.proofs.{GivenLemmas.{holds_nothing, soa_owned}, NameLemmas.{before_left, before_order, below_itself, below_length, below_trans}}
 use Rattle.domain_zone.proofs.{NameLemmas.{closest_above, either_way, one_lowered, parent_below, same_itself}, PairLemmas.{In, IsAscending, IsOnly}}
 use Rattle.domain_zone.proofs.PairLemmas.{all_from_in, all_in, ascending, in_at, in_either, in_map, in_middle, irreflexive, mapped_at, one_of_ring, pair_at}

@@ -11,8 +11,8 @@ use Rattle.domain_zone.specs.{Zone.{chain_ttl, soa_of}, Covering.pairs, declared
 use Rattle.domain_codecs.specs.Base32.{base32_lower}
 use Rattle.domain_bitmap.specs.Bitmap.{bitmap_octets}
 use Rattle.domain_nsec3.specs.declared.config.Nsec3ParamTtlMode.{Nsec3ParamTtlMode, TheVariants.{Fixed, Soa, SoaMinimum}}
-use Rattle.domain_records.specs.declared.error.SigningError.{SigningError, TheVariants.{EmptyRecordSlice, SoaRecordCouldNotBeDetermined}}
-use Rattle.domain_records.specs.declared.error.SigningError.TheVariants.{MultipleTtlValues, Nsec3HashingError, OutOfMemory}
+use Rattle.domain_groups.specs.declared.error.SigningError.{SigningError, TheVariants.{EmptyRecordSlice, SoaRecordCouldNotBeDetermined}}
+use Rattle.domain_groups.specs.declared.error.SigningError.TheVariants.{MultipleTtlValues, Nsec3HashingError, OutOfMemory}
 use Rattle.domain_hasher.specs.declared.error.Nsec3HashError.{Nsec3HashError}
 use Rattle.domain_hasher.specs.declared.error.Nsec3HashError.TheVariants as hash_error
 

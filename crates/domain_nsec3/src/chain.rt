@@ -4,7 +4,7 @@ ghost use Rattle.std.specs.Prelude.{slice_index_or, All, IfOk, IfErr, OnOk, OnEr
 ghost use Rattle.std.specs.List.{list_any, Sorted.{IsSortedByKey, IsStrictlySortedBy}};
 ghost use Rattle.std.specs.{Ordering.nat_cmp, Cmp.Lexicographic.slice_cmp};
 ghost use Rattle.domain_names.specs.Name.{is_at_or_below, same_name, canonical_cmp};
-ghost use Rattle.domain_records.specs.Order.{IsInOrder};
+ghost use Rattle.domain_groups.specs.InOrder.{IsInOrder};
 ghost use Rattle.domain_hasher.specs.declared.error.Nsec3HashError.TheVariants as hash_error;
 ghost use Rattle.domain_zone.specs.Zone.{chain_ttl, soa_of, zone_of};
 ghost use Rattle.domain_nsec3.specs.{Chain.{IsHashedChain, IsFaultless, IsFirstFault}, Steps.AreOrderedHashes};
@@ -18,10 +18,10 @@ use crate::hash::{Hashed, hash_into};
 use domain_base::{ParsedName, ToName};
 use domain_bitmap::RtypeBitmaps;
 use domain_chain_rdata::Nsec3param;
+use domain_groups::{RecordsIter, SigningError, Sorter};
 use domain_hasher::{Nsec3HashError, Nsec3Hasher};
 use domain_octets::{Octets, OutOfMemory, TryClone};
 use domain_record::ZoneData;
-use domain_records::{RecordsIter, SigningError, Sorter};
 use domain_zone::{ApexSoa, ListedOwners, list_owners};
 use std::alloc::Global;
 

@@ -8,9 +8,9 @@ ghost use Rattle.domain_nsec3.specs.declared.config.Nsec3ParamTtlMode.TheVariant
 use domain_base::{Rtype, ToName, Ttl};
 use domain_bitmap::RtypeBitmap;
 use domain_chain_rdata::Nsec3param;
+use domain_groups::DefaultSorter;
 use domain_octets::{EmptyOctets, Octets, OutOfMemory};
 use domain_record::ZoneData;
-use domain_records::DefaultSorter;
 use domain_zone::{ApexSoa, ChainTypes, UnoccludedOwner, list_types};
 use std::alloc::Global;
 use std::marker::PhantomData;

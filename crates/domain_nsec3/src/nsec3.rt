@@ -1,7 +1,7 @@
 //! The NSEC3 chain of a zone. Its records are made one by one, or all at once.
 ghost use Rattle.std.specs.Prelude.{◌≡◌, ◌<◌, ◌≤◌, ◌↔◌, [], All, length, slice_index_or, IsTrue, IfErr, IfOk, IfNone, IfSome, OnOk, string_bytes};
 ghost use Rattle.domain_base.specs.Classes.{in_class};
-ghost use Rattle.domain_records.specs.Order.{IsOneClass, IsInOrder};
+ghost use Rattle.domain_groups.specs.InOrder.{IsOneClass, IsInOrder};
 ghost use Rattle.domain_zone.specs.Zone.{zone_of};
 ghost use Rattle.domain_nsec3.specs.Chain.{HashedLink, IsChainParam, IsHashedChain, param_ttl, IsFaultless};
 ghost use Rattle.domain_nsec3.specs.{Chain.IsFirstFault, Meaning.{IsRecordOf, MeansTheZone}, Steps.{common_of, links_in}};
@@ -13,10 +13,10 @@ use crate::borrowed::{BorrowedNsec3, copy_param, copy_record, lend_record};
 use crate::chain::{HashedChain, chain_of_zone};
 use domain_base::{Class, MakeName, ParsedName, ToName, Ttl};
 use domain_chain_rdata::{Nsec3, Nsec3param};
+use domain_groups::{RecordsIter, SigningError, Sorter};
 use domain_hasher::Nsec3Hasher;
 use domain_octets::{FromBuilder, GrowingBuilder, Octets, OutOfMemory};
 use domain_record::{Record, ZoneData};
-use domain_records::{RecordsIter, SigningError, Sorter};
 use domain_zone::{ApexSoa, find_soa};
 use std::alloc::Global;
 use std::marker::Model;

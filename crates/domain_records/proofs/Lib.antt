@@ -1,2 +1,2 @@
 pub mod OrderLemmas
-pub mod GroupLemmas
+pub mod LookupLemmas

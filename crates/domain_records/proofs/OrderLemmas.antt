@@ -1,4 +1,4 @@
--- Records in order: sorted sets as lists, and lists in the order of places.
+-- Sorted sets as lists, and lists in the order of places.
 use Rattle.std.proofs.Common.{Bor, List, [], ◌∷◌, ap, is_lt, ◌≡◌, ℕ, ◌+◌, ◌<◌, ◌≤◌, Bool, false, not, ◌&&◌, ◌||◌, IsTrue, ◌-◌, ◌++◌, length, get_or, take}
 use Rattle.std.proofs.Common.{drop, Result, Ok, Err}
 use Rattle.std.proofs.Common.{IfOk, IfErr, refl, sym, ◌∙◌, subst, arith, ◌↔◌, zero, suc, add-one, true, None, Some, inl, inr, below_more}
@@ -18,28 +18,10 @@ use Rattle.std.specs.List.{position_or_len, swap}
 use Rattle.std.specs.List.Sorted.{IsStrictlySortedBy, IsSorted, IsStable, IsPermutation, ties, IsSearchInRange, IsBinarySearchResult, IsNonDecreasingBy}
 use Rattle.std.specs.Cmp.{IsTotalOrder, IsEquivalence, eq_by_cmp_equiv, alike_right, tied_back, Equal-is, upto, tied_itself, nat_cmp_total, then_total}
 use Rattle.std.specs.{Cmp.on_total, Ordering.{eq_by_cmp, is_eq, ordering_index, ordering_reverse, ordering_then, nat_cmp, is_gt, is_le}}
-use Rattle.domain_records.specs.Order.{AnswersBy, Holds, GoesTo, IsSortedSetOf, IsSortOf, IsUnion, KeepsEarliest, first_equal, HoldsPairwise, IsOneClass}
+use Rattle.domain_records.specs.Order.{Holds, GoesTo, IsSortedSetOf, IsSortOf, IsUnion, KeepsEarliest, first_equal, HoldsPairwise, IsOneClass}
 use Rattle.domain_records.specs.{Order.{MayFollow, IsInOrder, AreInOrder, AreAscending, AreDistinct, IsArranged, compared_places, AreRanks}}
-use Rattle.domain_records.specs.{Groups.{may_follow, same_class, same_ttl}}
-use Rattle.domain_records.specs.Groups.{HoldsOfNeighbours}
 use Rattle.domain_names.specs.{Name.{IsSame, canonical_cmp, canonical_cmp_total}, Laws.{same_tied, tied_same}}
 use Rattle.domain_record.specs.{declared.record.Record.Record, Record.{record_cmp, IsRecordClone}}
-
--- ---- What a sort asks of its comparison.
-
-module _ {F X R : Type 0} (g : Mut F X R) (P Q : X → R → Type 0) (f : (a : X) (r : R) → P a r → Q a r) where
-  each_weaker : (xs : List X) (s : F) → ReturnsEach g P s xs → ReturnsEach g Q s xs
-  each_weaker [] s h = tt
-  each_weaker (a ∷ xs) s h = λ r s' k. let p = h r s' k in (f a r p.0, each_weaker xs s' p.1)
-
-  -- what each call answers, it answers in other words
-  pub AlwaysReturns-weaker : (s : F) → AlwaysReturns g P s → AlwaysReturns g Q s
-  AlwaysReturns-weaker s h = record { at = λ xs. each_weaker xs s (h.at xs) }
-
--- a comparison by an order says what is less
-pub ComparesAs-from_order : {F X : Type 0} (g : Mut F (Bor X × (Bor X × Unit {0})) Ordering) (R : X → X → Ordering) (f : F) → AnswersBy g R f
-    → ComparesAs g (λ x y. is_lt (R x y)) f
-ComparesAs-from_order g R f = AlwaysReturns-weaker g _ _ (λ a r e. ap is_lt e) f
 
 -- ---- Sorted sets as lists: where an element stands or goes, and what a sort and a dedup leave.
 
@@ -171,89 +153,7 @@ module _ {X : Type 0} {R : X → X → Ordering} (o : IsTotalOrder R) (P : X →
 pub read_is : {X : Type 0} (xs : List X) (i : ℕ) (x : X) → i < length xs → x ≡ get_or xs i x → (d : X) → get_or xs i d ≡ x
 read_is xs i x lt e d = get_or_default xs i d x lt ∙ sym e
 
--- ---- Records in order: from neighbours to all pairs, and from the canonical order.
-
-module _ {X : Type 0} (P : X → X → Type 0) where
-  each_after : ((x y z : X) → P x y → P y z → P x z) → (x y : X) (ys : List X) → P x y → AllByRecursion (P y) ys → AllByRecursion (P x) ys
-  each_after chain x y [] p h = tt
-  each_after chain x y (z ∷ ys) p h = (chain x y z p h.0, each_after chain x y ys p h.1)
-
-  -- a relation that chains holds of all pairs where it holds of neighbours
-  pub pairs_from_neighbours : ((x y z : X) → P x y → P y z → P x z) → (xs : List X)
-      → ((k : ℕ) (d : X) → k + 1 < length xs → P (get_or xs k d) (get_or xs (k + 1) d)) → HoldsPairwise P xs
-  pairs_from_neighbours chain [] h = tt
-  pairs_from_neighbours chain (x ∷ []) h = (tt, tt)
-  pairs_from_neighbours chain (x ∷ y ∷ ys) h =
-      let rest = pairs_from_neighbours chain (y ∷ ys) (λ k d lt. rw add-one (rw add-one at (h (suc k) d (omega arith)))) in
-      let first : P x y = h 0 x (omega arith) in
-      ((first, each_after chain x y ys first rest.0), rest)
-
-  at_place : (x : X) (xs : List X) (j : ℕ) (d : X) → AllByRecursion (P x) xs → j < length xs → P x (get_or xs j d)
-  at_place x [] j d h lt = absurd (omega arith)
-  at_place x (y ∷ ys) zero d h lt = h.0
-  at_place x (y ∷ ys) (suc j) d h lt = at_place x ys j d h.1 (omega arith)
-
-  -- what holds of all pairs holds at two places
-  pub pair_at : (xs : List X) (i j : ℕ) (d : X) → HoldsPairwise P xs → i < j → j < length xs → P (get_or xs i d) (get_or xs j d)
-  pair_at [] i j d h le lt = absurd (omega arith)
-  pair_at (x ∷ xs) i zero d h le lt = absurd (omega arith)
-  pair_at (x ∷ xs) zero (suc j) d h le lt = at_place x xs j d h.0 (omega arith)
-  pair_at (x ∷ xs) (suc i) (suc j) d h le lt = pair_at xs i j d h.1 (omega arith) (omega arith)
-
-module _ {X : Type 0} {R : X → X → Ordering} (o : IsTotalOrder R) where
-  not_less_by : (x y z : X) (r s : Ordering) → R x y ≡ r → R y z ≡ s → R x z ≡ Equal → is_gt r ≡ false → is_gt s ≡ false → r ≡ Equal
-  not_less_by x y z r s p q e h k = grind (arith, common_steps)
-
-  -- what stands between two that are tied is tied to them
-  pub tied_between : (x y z : X) → is_gt (R x y) ≡ false → is_gt (R y z) ≡ false → R x z ≡ Equal → R x y ≡ Equal
-  tied_between x y z h k e = not_less_by x y z (R x y) (R y z) refl refl e h k
-
-parts : (o : Ordering) (m n : ℕ) → is_le (ordering_then o (nat_cmp m n)) ≡ true → (is_gt o ≡ false) × (o ≡ Equal → m ≤ n)
-parts o m n h = grind (arith, nat_tests)
-
-from_parts : (o : Ordering) (m n : ℕ) → is_gt o ≡ false → (o ≡ Equal → m ≤ n) → is_le (ordering_then o (nat_cmp m n)) ≡ true
-from_parts o m n h k = grind (arith, nat_tests)
-
-less_parts : (a b : ℕ) (o : Ordering) (m n : ℕ) (d : Ordering) → a ≡ b → ordering_then (nat_cmp a b) (ordering_then o (ordering_then (nat_cmp m n) d)) ≡ Less
-    → (is_gt o ≡ false) × (o ≡ Equal → m ≤ n)
-less_parts a b o m n d one h = grind (arith, nat_tests)
-
-module _ {N D : Type 0} (labels : N → List (List ℕ)) (rtype : D → ℕ) where
-  follows_by : (r s : Record N D) → (is_gt (canonical_cmp (labels r.owner) (labels s.owner)) ≡ false)
-      × (canonical_cmp (labels r.owner) (labels s.owner) ≡ Equal → rtype r.«data» ≤ rtype s.«data») → MayFollow labels rtype r s
-  follows_by r s h = record { owner = h.0; type = λ same. h.1 (same_tied (labels r.owner) (labels s.owner) same) }
-
-  follows_chain : (r s t : Record N D) → MayFollow labels rtype r s → MayFollow labels rtype s t → MayFollow labels rtype r t
-  follows_chain r s t h k = grind (arith, common_steps, same_tied, tied_same, (upto canonical_cmp_total), (tied_between canonical_cmp_total))
-
-  -- the test of two records says whether one may follow the other
-  may_follow-means : (r s : Record N D) → may_follow labels rtype r s ≡ true → MayFollow labels rtype r s
-  may_follow-means r s h = follows_by r s (parts _ _ _ h)
-
-  may_follow-from : (r s : Record N D) → MayFollow labels rtype r s → may_follow labels rtype r s ≡ true
-  may_follow-from r s h = from_parts _ _ _ h.owner (λ tied. h.type (tied_same (labels r.owner) (labels s.owner) tied))
-
-  -- records of one class in canonical order are in order
-  pub in_order_from_sorted : (data_cmp : D → D → Ordering) (rs : List (Record N D)) → IsStrictlySortedBy (record_cmp labels rtype data_cmp) rs → IsOneClass rs
-      → IsInOrder labels rtype rs
-  in_order_from_sorted data_cmp rs sorted one = pairs_from_neighbours _ follows_chain rs (λ k d lt. follows_by _ _ (less_parts _ _ _ _ _ _
-      (pair_at _ rs k (k + 1) d one (omega arith) lt) (Less-from_sorted (record_cmp labels rtype data_cmp) rs k (k + 1) d sorted (omega arith) lt)))
-
--- neighbours that a test passes have a relation that chains: then all pairs have it, and the other way round
-run_iff_pairs : {X : Type 0} (same : X → X → Bool) (P : X → X → Type 0) → ((x y : X) → same x y ≡ true → P x y) → ((x y : X) → P x y → same x y ≡ true)
-    → ((x y z : X) → P x y → P y z → P x z) → (xs : List X) → HoldsOfNeighbours same xs ↔ HoldsPairwise P xs
-run_iff_pairs same P means from chain xs = grind (arith, common_steps, pairs_from_neighbours, pair_at)
-
-module _ {N D : Type 0} (rs : List (Record N D)) where
-  pub one_class : HoldsOfNeighbours same_class rs ↔ IsOneClass rs
-  one_class = run_iff_pairs same_class (λ r s. r.class ≡ s.class) (λ r s. eqb-true _ _) (λ r s. eq-eqb _ _) (λ r s t h k. h ∙ k) rs
-
-  pub one_ttl : HoldsOfNeighbours same_ttl rs ↔ HoldsPairwise (λ r s. r.ttl ≡ s.ttl) rs
-  one_ttl = run_iff_pairs same_ttl (λ r s. r.ttl ≡ s.ttl) (λ r s. eqb-true _ _) (λ r s. eq-eqb _ _) (λ r s t h k. h ∙ k) rs
-
-  pub in_order : (labels : N → List (List ℕ)) (rtype : D → ℕ) → HoldsOfNeighbours (may_follow labels rtype) rs ↔ IsInOrder labels rtype rs
-  in_order labels rtype =
-      run_iff_pairs _ (MayFollow labels rtype) (may_follow-means labels rtype) (may_follow-from labels rtype) (follows_chain labels rtype) rs
+-- ---- Copies of records.
 
 -- a copy of a record is equal to it under the canonical order
 pub clone_tied : {N D : Type 0} (labels : N → List (List ℕ)) (rtype : D → ℕ) (data_cmp : D → D → Ordering) (is_owner_clone : N → N → Type 0)

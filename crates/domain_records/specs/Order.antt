@@ -1,32 +1,11 @@
--- Records of one class in order, lists as sorted sets, and lists in the order of their places.
+-- Lists as sorted sets, and lists in the order of their places.
+pub use Rattle.domain_groups.specs.Sorting.{AnswersBy}
+pub use Rattle.domain_groups.specs.InOrder.{HoldsPairwise, IsOneClass, MayFollow, IsInOrder}
 use Rattle.std.specs.Prelude.{◌≡◌, ℕ, ◌≤◌, List, [], ◌∷◌, ◌<◌, length, slice_index, slice_index_or, Option, Bool, IsTrue, All, Any, Contains, find, insert}
 use Rattle.std.specs.{Prelude.IsPermutation, List.{AllByRecursion, AllAdjacentBelow, Sorted.{IsStrictlySortedBy, IsSorted}}, declared.cmp.Ordering.Ordering}
-use Rattle.std.specs.{declared.cmp.Ordering.TheVariants.{Less, Equal}, Ordering.{nat_cmp, on, then_cmp, is_eq}, Fn.{Mut, AlwaysReturns}}
+use Rattle.std.specs.{declared.cmp.Ordering.TheVariants.{Less, Equal}, Ordering.{nat_cmp, on, then_cmp, is_eq}}
 use Rattle.domain_names.specs.Name.{IsSame, IsUpTo, canonical_cmp, Name}
 use Rattle.domain_record.specs.declared.record.Record.{Record}
-use denote.Ref.{Bor}
-
--- ---- Records of one class, in order of owner and type.
-
--- P holds for each element and each one after it
-abbrev pub HoldsPairwise : {X : Type 0} → (X → X → Type 0) → List X → Type 0
-HoldsPairwise P [] = Unit {0}
-HoldsPairwise P (x ∷ xs) = AllByRecursion (P x) xs × HoldsPairwise P xs
-
--- all records have the same class
-abbrev pub IsOneClass : {N D : Type 0} → List (Record N D) → Type 0
-IsOneClass = HoldsPairwise (λ r s. r.class ≡ s.class)
-
--- the owner of s does not come before that of r in the canonical order of names (RFC 4034, section
--- 6.1); if the owners are the same, the type of s is not less
-pub record MayFollow {N D : Type 0} (labels : N → Name) (rtype : D → ℕ)
-    (r s : Record N D) : Type 0 where
-  pub owner : IsUpTo (labels r.owner) (labels s.owner)
-  pub type : IsSame (labels r.owner) (labels s.owner) → rtype r.«data» ≤ rtype s.«data»
-
--- owners never descend, and within an owner types never descend
-abbrev pub IsInOrder : {N D : Type 0} → (N → Name) → (D → ℕ) → List (Record N D) → Type 0
-IsInOrder labels rtype = HoldsPairwise (MayFollow labels rtype)
 
 -- ---- The canonical order of records in two parts.
 
@@ -79,11 +58,6 @@ pub record AreInOrder {X : Type 0} (R : X → X → Ordering) (xs : List X) (d :
   pub ascend : AreAscending R xs d places
 
 -- ---- Lists as sorted sets, by an order R.
-
--- each call from f on, at two references, returns what R gives
-abbrev pub AnswersBy : {F X : Type 0} → Mut F (Bor X × (Bor X × Unit {0})) Ordering
-    → (X → X → Ordering) → F → Type 0
-AnswersBy g R = AlwaysReturns g (λ a r. r ≡ R a.0.now a.1.0.now)
 
 -- xs holds an element that R calls equal to x
 abbrev pub Holds : {X : Type 0} → (X → X → Ordering) → List X → X → Type 0

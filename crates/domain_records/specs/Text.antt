@@ -1,34 +1,20 @@
 -- Records as text, and what errors say.
+pub use Rattle.domain_groups.specs.ErrorText.{signing_error_of, signing_error_text}
 use Rattle.std.specs.{Prelude.{codes, ◌≡◌, ℕ, Bool, not, ◌==◌, List, [], ◌∷◌, ◌++◌, filter, Option, Some, Result, Ok}, Fmt.WritesText}
 use Rattle.std.specs.{Fmt.◌++?◌, Fn.Shared, List.FoldsTo, declared.fmt.Error.Error}
 use Rattle.domain_octets.specs.{Octets.Octets, Text.line_feed}
-use Rattle.domain_records.specs.declared.error.{InsertError.InsertError, SigningError.SigningError}
-use Rattle.domain_hasher.specs.{ErrorText.hash_error_text, declared.error.Nsec3HashError.{Nsec3HashError, TheVariants.OutOfMemory}}
+use Rattle.domain_records.specs.declared.error.InsertError.{InsertError}
 use Rattle.domain_base.specs.Types.{soa}
 use Rattle.domain_record.specs.declared.record.Record.{Record}
 use denote.Ref.{Bor, MutBor}
 use Rattle.domain_records.specs.declared.error.InsertError.TheVariants as insert_error
-use Rattle.domain_records.specs.declared.error.SigningError.TheVariants as signing_error
 
--- ---- What errors say, and the signing error for a hash error.
-
--- the text of a signing error
-abbrev pub signing_error_text : SigningError → Octets
-signing_error_text signing_error.EmptyRecordSlice = codes "signing fault"
-signing_error_text signing_error.MultipleTtlValues = codes "RRset with more than one TTL"
-signing_error_text signing_error.SoaRecordCouldNotBeDetermined = codes "no single SOA at the apex"
-signing_error_text (signing_error.Nsec3HashingError e) = hash_error_text e
-signing_error_text signing_error.OutOfMemory = codes "out of memory"
+-- ---- What errors say.
 
 -- the text of an error of `insert`
 abbrev pub insert_error_text : {N D : Type 0} → InsertError N D → Octets
 insert_error_text (insert_error.Present r) = codes "record already present"
 insert_error_text (insert_error.OutOfMemory r) = codes "out of memory"
-
--- the signing error for a hash error; out of memory remains `OutOfMemory`
-abbrev pub signing_error_of : Nsec3HashError → SigningError
-signing_error_of OutOfMemory = signing_error.OutOfMemory
-signing_error_of e = signing_error.Nsec3HashingError e
 
 -- ---- Records as text.
 

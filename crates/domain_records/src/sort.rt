@@ -8,70 +8,15 @@ ghost use Rattle.std.specs.{declared.cmp.Ordering.Ordering, Ordering.is_eq, Cmp.
 ghost use Rattle.std.specs.List.Sorted.{IsPermutation, IsSorted, IsStable, IsStrictlySortedBy};
 ghost use Rattle.domain_record.specs.Record.{record_cmp};
 ghost use Rattle.domain_records.specs.Order.{owner_cmp, rest_cmp, AreRanks, IsArranged, compared_places};
-ghost use Rattle.domain_records.specs.Order.{AreAscending, AreDistinct, IsSortOf, IsUnion, AnswersBy};
+ghost use Rattle.domain_records.specs.Order.{AreAscending, AreDistinct, IsSortOf, IsUnion};
 ghost use Rattle.domain_records.specs.Places.{AreKnown, IsKnownSort};
 
 use domain_base::{CanonicalOrd, ToName};
+use domain_groups::Sorter;
 use domain_octets::OutOfMemory;
 use domain_record::{Record, RecordData};
 use std::alloc::Global;
 use std::cmp::Ordering;
-
-/// A way to sort a list. Implement it to sort with other resources than `DefaultSorter` does, such
-/// as threads.
-pub trait Sorter {
-    /// Whether equal elements keep their order.
-    ghost is_stable: { Bool };
-
-    /// Sorts the list by the total order of `compare`. An error leaves the list as it was.
-    ///
-    /// # Errors
-    ///
-    /// `OutOfMemory` if there is no memory.
-    fn sort_by<T, F: Fn(&T, &T) -> Ordering>(
-        records: &mut Vec<T>,
-        compare: F,
-    ) -> Result<(), OutOfMemory>
-        requires callable { F.IsAlwaysCallable compare }
-        requires order { (R : T → T → Ordering) × IsTotalOrder R × AnswersBy F.Fn R compare }
-        ensures permutation { IsPermutation records.old.items records.new.items }
-        ensures sorted { OnOk result ((R : T → T → Ordering)
-            → IsTotalOrder R → AnswersBy F.Fn R compare → IsSorted R records.new.items) }
-        ensures stable { IsTrue is_stable → (R : T → T → Ordering)
-            → IsTotalOrder R → AnswersBy F.Fn R compare
-            → IsStable R records.old.items records.new.items }
-        ensures err { OnErr result (records.new.items ≡ records.old.items) };
-}
-
-/// The stable sort of the standard library, on one thread.
-pub struct DefaultSorter;
-
-impl Sorter for DefaultSorter {
-    ghost is_stable = { true };
-
-    fn sort_by<T, F: Fn(&T, &T) -> Ordering>(
-        records: &mut Vec<T>,
-        compare: F,
-    ) -> Result<(), OutOfMemory> {
-        records.sort_by(compare)?;
-        Ok(())
-    }
-}
-
-/// The unstable sort of the standard library, on one thread. Takes no memory.
-pub struct InPlaceSorter;
-
-impl Sorter for InPlaceSorter {
-    ghost is_stable = { false };
-
-    fn sort_by<T, F: Fn(&T, &T) -> Ordering>(
-        records: &mut Vec<T>,
-        compare: F,
-    ) -> Result<(), OutOfMemory> {
-        records.sort_unstable_by(compare);
-        Ok(())
-    }
-}
 
 /// The digit of each octet, from 1 to 47, in the order of octets in lower case. The octets of
 /// ordinary names, `*` to `9` and `_` to `z`, have digits of their own.

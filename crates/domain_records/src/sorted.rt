@@ -4,20 +4,21 @@ ghost use Rattle.std.specs.Prelude.{◌≡◌, ◌↔◌, ◌<◌, ◌≤◌, �
 ghost use Rattle.std.specs.Prelude.{Option, IsTrue, IfOk, IfErr, OnOk, OnErr, IsErrOf, vec_len, vec_capacity};
 ghost use Rattle.std.specs.{List.{AllZip, list_any}, Fmt.WritesText, Slice.Iter.iter_rest, Option.ForSome};
 ghost use Rattle.std.specs.{Iterator.IsFiniteIterable, List.Sorted.IsStrictlySortedBy};
-ghost use Rattle.domain_records.specs.Groups.{Gives, refused, without_first, IsFirstMatch, Updates, matches};
-ghost use Rattle.domain_records.specs.Groups.{AddsIfAbsent, IsFirstPlace, group_at};
-ghost use Rattle.domain_records.specs.{Groups.{IsFound, begins_with, same_rrset, runs}, Text.texts};
+ghost use Rattle.domain_groups.specs.Groups.{same_rrset, runs, IsFirstMatch, IsFirstPlace};
+ghost use Rattle.domain_records.specs.Sorted.{begins_with, group_at, matches, refused, without_first};
+ghost use Rattle.domain_records.specs.{Sorted.{AddsIfAbsent, Gives, IsFound, Updates}, Text.texts};
 ghost use Rattle.domain_records.specs.{Text.{soa_first, WritesWithComments}, Order.{IsOneClass, IsInOrder}};
 ghost use Rattle.domain_records.specs.Order.{IsUnion, Adds, Holds, GoesTo};
 ghost use Rattle.domain_base.specs.Types.{soa};
 ghost use Rattle.domain_record.specs.Record.{record_cmp, IsRecordClone};
 
-use crate::error::{InsertError, SigningError, SortError};
-use crate::group::{RecordsIter, Rrset, RrsetIter};
-use crate::slice::SliceRefsOrOwned;
-use crate::sort::{DefaultSorter, Sorter, sort_and_dedup};
+use crate::error::{InsertError, SortError};
+use crate::sort::sort_and_dedup;
 use crate::write::{Commented, Plain, write_soa_first};
 use domain_base::{CanonicalOrd, Class, Rtype, ToName};
+use domain_groups::{
+    DefaultSorter, RecordsIter, Rrset, RrsetIter, SigningError, SliceRefsOrOwned, Sorter,
+};
 use domain_octets::{OutOfMemory, TryClone};
 use domain_record::{CloneRecordData, Record, RecordData};
 use std::alloc::Global;
@@ -95,7 +96,7 @@ fn is_wanted<N: ToName, D: RecordData>(
 
 /// Returns the place of the first record with this owner, class and type. `None` matches any class
 /// or type. Looks at one record after another.
-#[tactic(auto, using(std::proofs::lemmas::Grind::common_steps, crate::proofs::GroupLemmas::first_by))]
+#[tactic(auto, using(std::proofs::lemmas::Grind::common_steps, domain_groups::proofs::GroupLemmas::first_by))]
 fn first_place<N: ToName, D: RecordData>(
     records: &[Record<N, D>],
     owner: &N,
@@ -110,7 +111,7 @@ fn first_place<N: ToName, D: RecordData>(
 }
 
 /// Returns the place of the first record of this type.
-#[tactic(auto, using(std::proofs::lemmas::Grind::common_steps, crate::proofs::GroupLemmas::first_by))]
+#[tactic(auto, using(std::proofs::lemmas::Grind::common_steps, domain_groups::proofs::GroupLemmas::first_by))]
 fn first_of_type<N, D: RecordData>(records: &[Record<N, D>], rtype: Rtype) -> Option<usize>
     ensures { IsFirstPlace (λ r. D.rtype r.«data» == rtype) records.now result }
 {
@@ -119,7 +120,7 @@ fn first_of_type<N, D: RecordData>(records: &[Record<N, D>], rtype: Rtype) -> Op
 }
 
 /// Returns the group of records of one owner and one type that begins at a place.
-#[tactic(auto, using(crate::proofs::GroupLemmas::taken_group))]
+#[tactic(auto, using(crate::proofs::LookupLemmas::taken_group))]
 fn rrset_at<N: ToName, D: RecordData>(
     records: &[Record<N, D>],
     place: Option<usize>,
@@ -381,7 +382,7 @@ impl<N: ToName, D: RecordData + CanonicalOrd, Sort: Sorter> SortedRecords<N, D, 
     /// # Errors
     ///
     /// `MultipleTtlValues` if the TTLs of that group differ.
-    #[tactic(auto, using(crate::proofs::GroupLemmas::found_by))]
+    #[tactic(auto, using(crate::proofs::LookupLemmas::found_by))]
     pub fn find_soa(&self) -> Result<Option<Rrset<'_, N, D>>, SigningError>
         ensures { IsFound D.rtype
             (find (begins_with (λ r. D.rtype r.«data» == soa))

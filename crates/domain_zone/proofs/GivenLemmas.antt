@@ -10,7 +10,7 @@ use Rattle.domain_zone.proofs.{PairLemmas.{in_filter, in_filtered, In, all_in, a
 use Rattle.domain_zone.proofs.{WalkLemmas.{in_any, filter_passes, all_map, filter_whole, weaker, any_map}, NameLemmas.{either_way, one_lowered}}
 use Rattle.domain_zone.{proofs.NameLemmas.same_itself, specs.declared.owners.ListedOwners.ListedOwners}
 use Rattle.domain_record.specs.declared.record.Record.{Record}
-use Rattle.domain_records.specs.Order.{HoldsPairwise, MayFollow, IsInOrder}
+use Rattle.domain_groups.specs.InOrder.{HoldsPairwise, MayFollow, IsInOrder}
 use Rattle.domain_bitmap.{specs.{Bitmap.bitmap_octets, Blocks.holds}, proofs.BitmapLemmas.bitmap_octets-same}
 use Rattle.domain_octets.specs.Octets.{Octets}
 

@@ -13,7 +13,7 @@ use Rattle.domain_zone.proofs.NameLemmas.{below_from, below_itself, lowered_belo
 use Rattle.domain_zone.proofs.PairLemmas.{IsAscending, In, all_from_in}
 use Rattle.domain_base.specs.Types.{ns, dname}
 use Rattle.domain_record.specs.declared.record.Record.{Record}
-use Rattle.domain_records.{specs.{Groups.{runs, same_owner, HasFirst}, Order.{MayFollow, IsInOrder}}, proofs.GroupLemmas.runs_nil}
+use Rattle.domain_groups.{specs.{Groups.{runs, same_owner, HasFirst}, InOrder.{MayFollow, IsInOrder}}, proofs.GroupLemmas.runs_nil}
 
 -- ---- One step of the walk: the records of one name come after those passed, and before the rest.
 

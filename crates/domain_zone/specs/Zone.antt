@@ -7,7 +7,7 @@ use Rattle.domain_names.specs.Name.{is_at_or_below, is_strictly_below, same_name
 use Rattle.domain_zone.specs.declared.{soa.ApexSoa.ApexSoa, owners.UnoccludedOwner.UnoccludedOwner, owners.ListedOwners.ListedOwners}
 use Rattle.domain_record.specs.declared.record.Record.{Record}
 use Rattle.domain_octets.specs.Octets.{Octets}
-use Rattle.domain_records.specs.declared.error.SigningError.{SigningError, TheVariants.{MultipleTtlValues, OutOfMemory}}
+use Rattle.domain_groups.specs.declared.error.SigningError.{SigningError, TheVariants.{MultipleTtlValues, OutOfMemory}}
 
 -- ---- What the records of a zone say: zone cuts, occluders, occluded names, owners and their types.
 -- Each definition filters the whole list L of records; a is the apex.

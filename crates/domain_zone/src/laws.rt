@@ -2,7 +2,7 @@
 ghost use Rattle.std.specs.Prelude.{◌≡◌, List, true};
 ghost use Rattle.domain_names.specs.Name.{same_name, before, Name};
 ghost use Rattle.domain_record.specs.declared.record.Record.{Record};
-ghost use Rattle.domain_records.specs.Order.{IsInOrder};
+ghost use Rattle.domain_groups.specs.InOrder.{IsInOrder};
 ghost use Rattle.domain_zone.specs.{Covering.{matches, covers}, Zone.{zone_of, OwnersNeverDescend}};
 
 use domain_base::ToName;

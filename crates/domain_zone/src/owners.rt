@@ -6,14 +6,14 @@ ghost use Rattle.domain_bitmap.specs.{Bitmap.bitmap_octets, Blocks.holds};
 ghost use Rattle.domain_zone.specs.Zone.{zone_of, as_zone_record, may_list, lists_type, clashes, has_clash};
 ghost use Rattle.domain_zone.specs.Zone.{IsFirstClash, AreListed, IsListingFault, covered_names, OwnerRecords};
 ghost use Rattle.domain_zone.specs.Zone.{as_owner_records, has_type, is_passed_over};
-ghost use Rattle.domain_records.specs.Order.{HoldsPairwise, IsInOrder};
+ghost use Rattle.domain_groups.specs.InOrder.{HoldsPairwise, IsInOrder};
 ghost use Rattle.domain_octets.specs.Octets.{Octets};
 
 use domain_base::{ParsedName, Rtype, ToName};
 use domain_bitmap::{RtypeBitmap, RtypeBitmapBuilder, RtypeBitmaps};
+use domain_groups::{OwnerRrs, RecordsIter, SigningError, SliceRefsOrOwnedIterator};
 use domain_octets::{GrowingBuilder, OutOfMemory};
 use domain_record::{Record, ZoneData};
-use domain_records::{OwnerRrs, RecordsIter, SigningError, SliceRefsOrOwnedIterator};
 use std::alloc::Global;
 use std::marker::Model;
 
@@ -81,7 +81,7 @@ pub struct UnoccludedOwners<'a, N: ToName, D: ZoneData> {
 
 impl<'a, N: ToName, D: ZoneData> Model for UnoccludedOwners<'a, N, D> {
     ghost use Rattle.std.specs.{Prelude.{List, filter, map}, Option.option_map};
-    ghost use Rattle.domain_records.specs.Groups.{same_owner, runs};
+    ghost use Rattle.domain_groups.specs.Groups.{same_owner, runs};
     ghost use Rattle.domain_zone.specs.Zone.{stays, OwnerRecords, zone_of, left_owners};
 
     ghost Value = { List OwnerRecords };
@@ -92,7 +92,7 @@ impl<'a, N: ToName, D: ZoneData> Model for UnoccludedOwners<'a, N, D> {
 }
 
 impl<'a, N: ToName, D: ZoneData> UnoccludedOwners<'a, N, D> {
-    ghost use Rattle.domain_records.specs.Order.{IsInOrder};
+    ghost use Rattle.domain_groups.specs.InOrder.{IsInOrder};
     ghost use Rattle.domain_zone.specs.Zone.{covered_owners};
 
     /// Returns an iterator over the owners at or below the apex of records that are in order. It

@@ -3,8 +3,8 @@ ghost use Rattle.std.specs.Prelude.{◌≡◌};
 ghost use Rattle.domain_zone.specs.Zone.{chain_ttl, is_soa, soa_of, as_zone_record, zone_of};
 
 use domain_base::{Class, Rtype, ToName, Ttl};
+use domain_groups::SliceRefsOrOwnedIterator;
 use domain_record::{Record, ZoneData};
-use domain_records::SliceRefsOrOwnedIterator;
 
 /// The fields of the SOA record of an apex that a chain needs.
 #[derive(Clone, Copy, Debug, PartialEq, Eq)]

@@ -4,7 +4,7 @@ use Rattle.domain_nsec3.specs.{View.HasherAnswer, Chain.{HashedLink, ParamRecord
 use Rattle.domain_checker.specs.{HashedIndex.indexed_by, HashedVerdict.{HashedRecords, links_with}}
 use Rattle.judge_program.specs.declared.{nsec3_told.Inquiry.Inquiry, command.Nsec3Options.Nsec3Options}
 use Rattle.domain_hasher.specs.declared.error.Nsec3HashError.{Nsec3HashError, TheVariants.Hasher}
-use Rattle.domain_records.specs.declared.error.SigningError.{SigningError, TheVariants.Nsec3HashingError}
+use Rattle.domain_groups.specs.declared.error.SigningError.{SigningError, TheVariants.Nsec3HashingError}
 use Rattle.domain_nsec.specs.Chain.{Link}
 use Rattle.domain_borrowed.specs.Data.{RawRecord}
 use Rattle.domain_answer.specs.{HashedReading.IsFirstOfRefusals, Judged.{IsExpansionJudged, IsHashedJudged, IsJudged}, declared.answer.Answer.Answer}

@@ -11,7 +11,7 @@ use Rattle.domain_names.specs.Name.{Name, Tokens}
 use Rattle.domain_alike.specs.Alike.{Pair}
 use Rattle.domain_nsec3.specs.View.{HasherAnswer}
 use Rattle.domain_hasher.specs.declared.error.Nsec3HashError.TheVariants.{Hasher}
-use Rattle.domain_records.specs.declared.error.SigningError.{SigningError, TheVariants.Nsec3HashingError}
+use Rattle.domain_groups.specs.declared.error.SigningError.{SigningError, TheVariants.Nsec3HashingError}
 
 -- ---- The lines of an input.
 

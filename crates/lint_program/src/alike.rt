@@ -4,7 +4,7 @@ ghost use Rattle.domain_alike.specs.Alike.{pair_of};
 ghost use Rattle.domain_borrowed.specs.Data.{RawRecord};
 ghost use Rattle.domain_hasher.specs.declared.error.Nsec3HashError.TheVariants as hash_error;
 ghost use Rattle.domain_records.specs.Order.{IsInOrder, IsOneClass};
-ghost use Rattle.domain_records.specs.declared.error.SigningError.TheVariants as signing_error;
+ghost use Rattle.domain_groups.specs.declared.error.SigningError.TheVariants as signing_error;
 ghost use Rattle.denial_program.specs.Answer.{Sorts};
 ghost use Rattle.denial_program.specs.declared.fault.DenialFault.TheVariants.{OutOfMemory as Memory, Signing};
 ghost use Rattle.lint_program.specs.Alike.{outcome_with, AreTold, IsRefusalBy};

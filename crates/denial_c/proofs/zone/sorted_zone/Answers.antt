@@ -1,6 +1,6 @@
 use Rattle.std.proofs.Common.{sym, subst}
 use Rattle.domain_borrowed.specs.Data.{data_cmp}
-use Rattle.domain_records.proofs.OrderLemmas.{in_order_from_sorted}
+use Rattle.domain_groups.proofs.InOrderLemmas.{in_order_from_sorted}
 use Rattle.denial_c.specs.Chains.{AreSorted}
 use Rattle.denial_c.proofs.zone.sorted_zone.Goals as goal
 

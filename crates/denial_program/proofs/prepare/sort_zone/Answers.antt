@@ -1,6 +1,6 @@
 use Rattle.std.proofs.Common.{List, sym, subst}
 use Rattle.domain_borrowed.specs.Data.{RawRecord, data_cmp}
-use Rattle.domain_records.{specs.Order.IsInOrder, proofs.OrderLemmas.in_order_from_sorted}
+use Rattle.domain_groups.{specs.InOrder.IsInOrder, proofs.InOrderLemmas.in_order_from_sorted}
 use Rattle.denial_program.specs.Answer.{Sorts}
 use Rattle.denial_program.proofs.prepare.sort_zone.Goals as goal
 

@@ -1,4 +1,4 @@
-use Rattle.domain_records.proofs.OrderLemmas.{in_order_from_sorted}
+use Rattle.domain_groups.proofs.InOrderLemmas.{in_order_from_sorted}
 use Rattle.domain_records.proofs.laws.sorted_records_are_in_order.Goals as goal
 
 pub returns : goal.returns

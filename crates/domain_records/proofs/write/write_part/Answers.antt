@@ -1,4 +1,4 @@
-use Rattle.domain_records.proofs.GroupLemmas.{picked_more}
+use Rattle.domain_records.proofs.LookupLemmas.{picked_more}
 use Rattle.domain_records.proofs.write.write_part.Goals as goal
 
 pub loop-item-preserved : goal.loop-item-preserved

@@ -1,5 +1,5 @@
 use Rattle.std.proofs.{lemmas.{Result.on_ok_weaker, Grind.common_steps}, Common.arith}
-use Rattle.domain_records.{specs.Text.is_soa, proofs.GroupLemmas.both_parts}
+use Rattle.domain_records.{specs.Text.is_soa, proofs.LookupLemmas.both_parts}
 use Rattle.domain_records.proofs.write.write_soa_first.Goals as goal
 
 pub returns : goal.returns

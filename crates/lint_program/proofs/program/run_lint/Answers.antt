@@ -5,7 +5,7 @@ use Rattle.domain_borrowed.specs.Data.{RawRecord}
 use Rattle.domain_nsec3.specs.View.{HasherAnswer}
 use Rattle.domain_octets.specs.Octets.{Octets}
 use Rattle.domain_hasher.specs.declared.error.Nsec3HashError.TheVariants as hash_error
-use Rattle.domain_records.specs.declared.error.SigningError.TheVariants as signing_error
+use Rattle.domain_groups.specs.declared.error.SigningError.TheVariants as signing_error
 use Rattle.denial_program.{specs.{Command.Params, declared.fault.DenialFault.TheVariants.{OutOfMemory as Memory, Signing}}, proofs.LineLemmas.known_so}
 use Rattle.domain_alike.specs.Alike.{pair_of}
 use Rattle.lint_program.specs.{Alike.{alike_text, outcome_with, IsRefusalBy}, Command.{Asks, IsHashedCommand}, Notes.mark_of, Report.{IsRefused, IsTold}}

@@ -1,4 +1,4 @@
-use Rattle.domain_records.proofs.OrderLemmas.{in_order_from_sorted}
+use Rattle.domain_groups.proofs.InOrderLemmas.{in_order_from_sorted}
 use Rattle.domain_records.proofs.sorted.SortedRecords.as_slice.Goals as goal
 
 pub returns-clause-in_order : goal.returns-clause-in_order

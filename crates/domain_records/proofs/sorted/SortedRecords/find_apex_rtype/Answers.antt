@@ -1,5 +1,5 @@
 use Rattle.std.proofs.Common.{Some}
-use Rattle.domain_records.proofs.GroupLemmas.{found_by, matches_alike}
+use Rattle.domain_records.proofs.LookupLemmas.{found_by, matches_alike}
 use Rattle.domain_records.proofs.sorted.SortedRecords.find_apex_rtype.Goals as goal
 
 pub returns : goal.returns

@@ -1,6 +1,6 @@
 use Rattle.std.proofs.{Common.{sym, not, rules}, lemmas.{Fn.filter_same, List.Kept.IsStrictlySortedBy-filter}}
 use Rattle.domain_record.specs.declared.record.Record.{Record}
-use Rattle.domain_records.{specs.Groups.matches, proofs.GroupLemmas.{none_left, first_left}}
+use Rattle.domain_records.{specs.Sorted.matches, proofs.LookupLemmas.{none_left, first_left}}
 use Rattle.domain_records.proofs.sorted.SortedRecords.remove_all_by_name_class_rtype.Goals as goal
 
 pub invariant_of-self : goal.invariant_of-self

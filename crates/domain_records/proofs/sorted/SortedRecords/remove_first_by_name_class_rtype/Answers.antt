@@ -1,6 +1,6 @@
 use Rattle.std.proofs.{Common.{sym, arith}, lemmas.Grind.common_steps}
 use Rattle.domain_record.specs.Record.{record_cmp_total}
-use Rattle.domain_records.proofs.{OrderLemmas.sorted_remove, GroupLemmas.{none_left, first_left}}
+use Rattle.domain_records.proofs.{OrderLemmas.sorted_remove, LookupLemmas.{none_left, first_left}}
 use Rattle.domain_records.proofs.sorted.SortedRecords.remove_first_by_name_class_rtype.Goals as goal
 
 pub invariant_of-self : goal.invariant_of-self

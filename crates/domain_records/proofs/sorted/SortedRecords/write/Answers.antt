@@ -1,5 +1,5 @@
 use Rattle.std.proofs.lemmas.Result.{on_ok_weaker}
-use Rattle.domain_records.proofs.GroupLemmas.{texts_written}
+use Rattle.domain_records.proofs.LookupLemmas.{texts_written}
 use Rattle.domain_records.proofs.sorted.SortedRecords.write.Goals as goal
 
 pub returns : goal.returns

@@ -1,6 +1,6 @@
 use Rattle.std.proofs.{Common.{refl, [], ◌∷◌}, lemmas.Result.on_ok_weaker}
 use lib.Utf8.{encode}
-use Rattle.domain_records.proofs.GroupLemmas.{one_call}
+use Rattle.domain_records.proofs.LookupLemmas.{one_call}
 use Rattle.domain_records.proofs.write.CommentedLine.put.Goals as goal
 
 pub returns : goal.returns

@@ -1,5 +1,5 @@
 use Rattle.std.{proofs.Common.{◌≡◌, map, length}, specs.{Option.option_map, Prelude.filter}}
-use Rattle.domain_records.specs.Groups.{same_owner, runs}
+use Rattle.domain_groups.specs.Groups.{same_owner, runs}
 use Rattle.domain_zone.specs.Zone.{stays, as_zone_record, left_owners}
 use Rattle.domain_zone.proofs.owners.UnoccludedOwnersIterator.next.Given as goal
 

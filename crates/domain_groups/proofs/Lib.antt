@@ -1,0 +1,3 @@
+pub mod GroupLemmas
+pub mod InOrderLemmas
+pub mod SorterLemmas

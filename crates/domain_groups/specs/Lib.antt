@@ -1,0 +1,4 @@
+pub mod Groups
+pub mod InOrder
+pub mod Sorting
+pub mod ErrorText

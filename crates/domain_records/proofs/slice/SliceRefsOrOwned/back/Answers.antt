@@ -1,5 +1,0 @@
-use Rattle.std.proofs.{Common.arith, lemmas.{List.drop-map, Grind.common_steps}}
-use Rattle.domain_records.proofs.slice.SliceRefsOrOwned.back.Goals as goal
-
-pub returns-in-Refs : goal.returns-in-Refs
-returns-in-Refs g c = grind (arith, common_steps, drop-map)
