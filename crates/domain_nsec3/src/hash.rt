@@ -299,7 +299,8 @@ fn hash_four<H: Nsec3Hasher, O: Octets>(
 fn push_hashes(apex: &ParsedName<'_>, hashes: &[Vec<u8>; 4], hashed: &mut Vec<Hashed>) -> Option<()>
     requires room { length hashed.old.items + 4 ≤ vec_capacity hashed.old }
     ensures hashes { (hash : Hash) (names : List Name) → length hashed.old.items + 4 ≤ length names
-        → AreHashesFrom hash names (length hashed.old.items) (map (λ octets. octets.items) hashes.now)
+        → AreHashesFrom hash names (length hashed.old.items)
+        (map (λ octets. octets.items) hashes.now)
         → AreFirstHashes apex.now hash names hashed.old.items
         → AreFirstHashes apex.now hash names hashed.new.items }
     ensures four { OnSome result (length hashed.new.items ≡ length hashed.old.items + 4) }
@@ -313,8 +314,8 @@ fn push_hashes(apex: &ParsedName<'_>, hashes: &[Vec<u8>; 4], hashed: &mut Vec<Ha
 }
 
 /// Appends the hashes of the next four names to those of the names before them, each with the place
-/// of its name; returns whether it did. It appends fewer, or none, if one of the four is refused, or
-/// if the hasher is out of memory.
+/// of its name; returns whether it did. It appends fewer, or none, if the hasher returns an error or
+/// a hash is not of use.
 fn push_four<H: Nsec3Hasher, O: Octets>(
     alloc: Global,
     hasher: &H,
