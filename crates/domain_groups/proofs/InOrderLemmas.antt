@@ -1,5 +1,5 @@
 -- Records in order: from neighbours to all pairs, and from the canonical order.
-use Rattle.std.proofs.Common.{List, [], ◌∷◌, ◌≡◌, ℕ, ◌+◌, ◌<◌, ◌≤◌, false, true, length, get_or, refl, ◌∙◌, arith, ◌↔◌, zero, suc, add-one}
+use Rattle.std.proofs.Common.{Bool, List, [], ◌∷◌, ◌≡◌, ℕ, ◌+◌, ◌<◌, ◌≤◌, false, true, length, get_or, refl, ◌∙◌, arith, ◌↔◌, zero, suc, add-one}
 use Rattle.std.proofs.lemmas.{Map.Keys.Less-from_sorted, Grind.common_steps, Bool.{eq-eqb, eqb-true, Decides.nat_tests}}
 use Rattle.std.specs.{declared.cmp.Ordering.{Ordering, TheVariants.{Less, Equal}}, List.{AllByRecursion, Sorted.IsStrictlySortedBy}}
 use Rattle.std.specs.{Cmp.{IsTotalOrder, upto}, Ordering.{ordering_then, nat_cmp, is_gt, is_le}}
