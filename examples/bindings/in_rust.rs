@@ -1,4 +1,4 @@
-//! Makes the calls that examples/bindings/cases prints, by the crate in examples/rust, and says which
+//! Makes the calls that examples/bindings/cases prints, by the crate in bindings/rust, and says which
 //! are answered otherwise.
 use denial::{Answer, Fault, Hashing, Zone};
 use std::error::Error;

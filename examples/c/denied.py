@@ -1,5 +1,5 @@
 #!/usr/bin/env python3
-"""Calls the C library from Python, by python/denial.py, and compares verdicts and answers.
+"""Calls the C library from Python, by bindings/python/denial.py, and compares verdicts and answers.
 
     denied.py LIBRARY
 
@@ -11,7 +11,7 @@ import struct
 import sys
 
 sys.dont_write_bytecode = True
-sys.path.insert(0, str(pathlib.Path(__file__).resolve().parent.parent.parent / "python"))
+sys.path.insert(0, str(pathlib.Path(__file__).resolve().parents[2] / "bindings/python"))
 from denial import IN, Denial, wire_name
 
 HAS, NO_TYPE, NO_NAME = 3, 4, 7

@@ -8,7 +8,7 @@
 #include <stdlib.h>
 #include <string.h>
 
-#include "denial.h"
+#include <denial.h>
 
 enum { A = 1, NS = 2, CNAME = 5, SOA = 6, MX = 15, DNAME = 39, DS = 43, RRSIG = 46, NSEC = 47, NSEC3 = 50, NSEC3PARAM = 51 };
 enum { IN = 1, CH = 3 };

@@ -18,7 +18,7 @@
 #include <time.h>
 #include <unistd.h>
 
-#include "denial.h"
+#include <denial.h>
 #include "input.h"
 
 enum { SEEDS = 64, MOST = 1 << 16 };

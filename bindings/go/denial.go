@@ -2,7 +2,7 @@
 // calls that examples/bindings/cases prints, and says which are answered otherwise.
 //
 // Names and records are octets, as a message has them without compression; records stand one after
-// another. include/denial.h says what each call takes and answers.
+// another. bindings/c/denial.h says what each call takes and answers.
 package main
 
 // #cgo pkg-config: denial

@@ -6,7 +6,7 @@
 #include <stdlib.h>
 #include <string.h>
 
-#include "denial.h"
+#include <denial.h>
 
 enum { A = 1, NS = 2, SOA = 6, IN = 1 };
 

@@ -17,7 +17,7 @@
 
 #include <ldns/ldns.h>
 
-#include "denial.h"
+#include <denial.h>
 
 enum { ITERATIONS = 2, SALT_LENGTH = 2 };
 

@@ -2,7 +2,7 @@
 //! records prove.
 //!
 //! Names and records are octets, as a message has them without compression; records stand one after
-//! another. `include/denial.h` says what each call takes and answers. Nothing here looks at a
+//! another. `bindings/c/denial.h` says what each call takes and answers. Nothing here looks at a
 //! signature. Link with `-L native=PREFIX/lib -l denial`.
 #![warn(missing_docs)]
 

@@ -18,7 +18,7 @@
 #include <stdlib.h>
 #include <string.h>
 
-#include "denial.h"
+#include <denial.h>
 #include "input.h"
 
 /* The most iterations that are allowed (RFC 9276, section 3.2, leaves the number to the validator). */

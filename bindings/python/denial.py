@@ -8,7 +8,7 @@
     # Answer(number=44, text='name error', labels=2)
 
 Names and records are octets, in the wire form without compression; records follow one another.
-include/denial.h says what each call takes and returns. An error is a `Fault`. No signature is
+bindings/c/denial.h says what each call takes and returns. An error is a `Fault`. No signature is
 checked.
 """
 import ctypes
