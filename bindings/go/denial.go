@@ -1,5 +1,5 @@
 // Package main calls libdenial from Go by cgo: DNSSEC denial of existence by a proved library. It makes the
-// calls that examples/bindings/cases prints, and says which are answered otherwise.
+// calls that tests/bindings/cases prints, and says which are answered otherwise.
 //
 // Names and records are octets, as a message has them without compression; records stand one after
 // another. bindings/c/denial.h says what each call takes and answers.

@@ -1,5 +1,5 @@
-//! Makes the calls that examples/bindings/cases prints, by the crate in bindings/rust, and says which
-//! are answered otherwise.
+//! Makes the calls that tests/bindings/cases prints, by the crate in bindings/rust, and lists those
+//! with another result.
 use denial::{Answer, Fault, Hashing, Zone};
 use std::error::Error;
 use std::io::BufRead;

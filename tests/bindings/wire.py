@@ -1,6 +1,6 @@
 """Makes the wire form of records from their presentation format.
 
-It knows the types of the worked values and of the random zones of examples/bindings.
+It knows the types of the worked values and of the random zones of tests/bindings.
 """
 import base64
 import ipaddress

@@ -1,4 +1,4 @@
-"""Signs a zone, and serves it on 127.0.0.1: for examples/serve and examples/deny."""
+"""Signs a zone, and serves it on 127.0.0.1: for `serve` and `deny` of this folder."""
 import pathlib
 import shutil
 import socket

@@ -1,4 +1,4 @@
-"""Reads the names and numbers of types, as IANA's registry has them: examples/types."""
+"""Reads the names and numbers of types, as IANA's registry has them: `types` of this folder."""
 import pathlib
 
 FILE = pathlib.Path(__file__).resolve().parent / "types"
