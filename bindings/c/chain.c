@@ -1,6 +1,6 @@
 /*
- * Makes the NSEC chain of a small zone, that of examples/small.zone, and prints its records, one a line,
- * as examples/small.nsec has them. Needs no other library.
+ * Makes the NSEC chain of the zone in examples/small.zone, and prints its records, one a line, as
+ * examples/small.nsec has them. It needs no other library.
  */
 #include <stdio.h>
 #include <stdlib.h>

@@ -1,18 +1,18 @@
 /*
- * Says what the NSEC or NSEC3 records of a file answer to a question about a name and a type.
+ * Prints what the NSEC or NSEC3 records of a file prove about a name and a type.
  *
  *     denied [--check] APEX FILE [NAME TYPE]
  *
- * The answer is a whole one: that there is no such name and no wildcard either, that it is delegated,
- * an alias, and so on. Where the records that answer were expanded from a wildcard and the chain is
- * NSEC3, it is what such an answer needs: that there is no closer name than the one right above the
- * wildcard. With --check it is a verdict on the one name and the one type. Of answers and verdicts
- * that come with labels the name of so many labels is printed too.
+ * It prints a whole answer: that neither the name nor a wildcard exists, that the name is delegated, an
+ * alias, and so on. If the data were expanded from a wildcard and the chain is NSEC3, it prints whether
+ * no closer name exists than the one right above the wildcard. With --check it prints a verdict on the
+ * one name and the one type. If labels come with an answer or a verdict, it also prints the name that
+ * has that many labels.
  *
- * The file is an answer as `dig +dnssec` printed it, a chain or a signed zone, one record a line.
- * Without NAME and TYPE the question of the answer is asked. All records are handed on as they
- * stand; the library passes over those that deny nothing. Of signatures nothing but the field Labels
- * is looked at: a validator checks them first.
+ * FILE is an answer as `dig +dnssec` printed it, a chain or a signed zone, one record a line. Without
+ * NAME and TYPE the program takes the question of the answer. It passes all records as they are, and the
+ * library ignores those that deny nothing. Of signatures the program reads only the field Labels: a
+ * validator checks them first.
  */
 #include <stdio.h>
 #include <stdlib.h>

@@ -3,12 +3,12 @@
  *
  *     signer nsec|nsec3 APEX FILE
  *
- * The file has the records of a zone, one a line; what a signer put there is left out. NSEC3 chains have
- * two iterations and the salt abcd. libldns leaves out names below an owner of a DNAME record, so that
- * this library is asked to do the same, and it lists no DNSKEY that is not there. With opt-out libldns
- * keeps delegations without DS in the chain, so that such chains are not compared. Owners, next names or
- * hashes, types and parameters are compared; TTLs are not. Prints how many records there are, and how long
- * each took in milliseconds. Ends with status 1 where the chains differ.
+ * FILE has the records of a zone, one a line. The program leaves out what a signer added. NSEC3 chains
+ * have two iterations and the salt abcd. libldns leaves out names below an owner of a DNAME record, so
+ * this library is called to do the same. libldns lists no DNSKEY that is not there. With opt-out libldns
+ * keeps delegations without DS in the chain, so such chains are not compared. The program compares
+ * owners, next names or hashes, types and parameters, but not TTLs. It prints the number of records, and
+ * the milliseconds of each library. The status is 1 if the chains differ.
  */
 #include <stdio.h>
 #include <stdlib.h>

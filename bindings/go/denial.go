@@ -1,8 +1,8 @@
 // Package main calls libdenial from Go by cgo: DNSSEC denial of existence by a proved library. It makes the
-// calls that tests/bindings/cases prints, and says which are answered otherwise.
+// calls that tests/bindings/cases prints, and lists those with another result.
 //
-// Names and records are octets, as a message has them without compression; records stand one after
-// another. bindings/c/denial.h says what each call takes and answers.
+// Names and records are octets, in the wire form without compression; records follow one another.
+// bindings/c/denial.h says what each call takes and returns. No signature is checked.
 package main
 
 // #cgo pkg-config: denial

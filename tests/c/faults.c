@@ -1,8 +1,8 @@
 /*
- * Calls the library with small messages that are made by hand, and compares each answer with the
- * number in `denial.h` that must come: each verdict, each whole answer, each fault and each text, and
- * octets cut at each place. Needs no other library. Linked with `-Wl,--wrap=malloc,--wrap=realloc`,
- * so that memory can be refused.
+ * Calls the library with small messages that are made by hand, and compares each result with the code
+ * of `denial.h` that it must return: each verdict, each whole answer, each fault and each text, and
+ * octets cut at each place. It needs no other library. Link it with
+ * `-Wl,--wrap=malloc,--wrap=realloc`, so that allocations can fail.
  */
 #include <stdio.h>
 #include <stdlib.h>

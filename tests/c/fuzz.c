@@ -3,13 +3,15 @@
  *
  *     fuzz SECONDS APEX FILE..
  *
- * The records of the files are the seeds, and the owners of their records the names that are asked
- * for. First each seed is cut at each place; then octets are changed, cut, doubled and joined at
- * random. What is handed in ends right before a page that can't be read, so that a read past its end
- * ends the program. Ends with status 1 where an answer is none of `denial.h`, where it differs when
- * the same is asked again, where a closest encloser has more labels than the name, where a whole
- * answer and a verdict are of octets of which one is refused and the other is not, or where a chain has
- * not so many octets as it asked room for, or is written with less room.
+ * The records of the files are the seeds, and their owners are the names that it asks for. First it
+ * cuts each seed at each place. Then it changes, cuts, doubles and joins octets at random. The octets
+ * that it passes end right before a page that cannot be read, so that a read past their end ends the
+ * program. The status is 1 if one of these happens:
+ *
+ * - a result is no code of `denial.h`, or differs when the same call is made again;
+ * - a closest encloser has more labels than the name;
+ * - a verdict and a whole answer over the same octets do not agree on an error;
+ * - a chain has another length than the one that was reported, or is written into less room.
  */
 #include <stdio.h>
 #include <stdlib.h>

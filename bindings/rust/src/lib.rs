@@ -1,9 +1,9 @@
 //! DNSSEC denial of existence by a proved library, libdenial: the chain of a zone, and what its
 //! records prove.
 //!
-//! Names and records are octets, as a message has them without compression; records stand one after
-//! another. `bindings/c/denial.h` says what each call takes and answers. Nothing here looks at a
-//! signature. Link with `-L native=PREFIX/lib -l denial`.
+//! Names and records are octets, in the wire form without compression; records follow one another.
+//! `bindings/c/denial.h` says what each call takes and returns. No signature is checked. Link with
+//! `-L native=PREFIX/lib -l denial`.
 #![warn(missing_docs)]
 
 use std::ffi::{c_char, CStr};
