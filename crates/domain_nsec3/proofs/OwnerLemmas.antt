@@ -12,7 +12,7 @@ use Rattle.domain_names.specs.{Name.{is_at_or_below, is_strictly_below, lowered,
 use Rattle.domain_names.specs.Wire.{labels_of}
 use Rattle.domain_nsec3.specs.Chain.{ChainConfig, Hash, excludes, hash_fault, hash_name, hashed_owner, is_chain_name, is_empty, is_excluded, is_original_owner}
 use Rattle.domain_nsec3.specs.{Chain.original_owners, Meaning.{CutsEnclose, octets_before}}
-use Rattle.domain_nsec3.specs.Steps.{AreFirstHashes, AreHashesFrom, AreHashesOf, HasAlikeNeighbours, IsFirstRefused, IsHashOf}
+use Rattle.domain_nsec3.specs.Steps.{AreFirstHashes, AreHashesOf, HasAlikeNeighbours, IsFirstRefused, IsHashOf}
 use Rattle.domain_nsec3.specs.{Steps.{IsHashed, IsListOf, IsPlacedHash, IsRefusal, above_with_more, is_over, name_at}, declared.hash.Hashed.Hashed}
 use Rattle.domain_octets.{proofs.{StdLemmas.and_false, WordLemmas.octets_from_type}, specs.Octets.{AreOctets, Octets}}
 use Rattle.domain_zone.proofs.NameLemmas.{before_order, below_between, below_from, below_itself, below_longer, below_parent, below_trans, common_shares}
@@ -190,16 +190,16 @@ module _ (a : Name) (hash : Hash) (names : List Name) where
       let more = length_push hashed h in
       grind (arith, common_steps, map_push, All-push)
 
-  -- a hash from a list of those of the names from a place on: it is of use, and is put behind those before it
-  pub one_more_from : (hashed new : List Hashed) (octets : List Octets) (start i : ℕ) (o : Octets) (h : Hashed) → length hashed ≡ start + i
-      → start + i < length names → i < length octets → o ≡ get_or octets i [] → AreHashesFrom hash names start octets
-      → IsPlacedHash a o (length hashed) h → new ≡ hashed ++ h ∷ [] → AreFirstHashes a hash names hashed → AreFirstHashes a hash names new
-  one_more_from hashed new octets start i o h at within inside read from placed is so_far =
-      let x = get_or names (length hashed) [] in
-      let there : x ≡ get_or names (length hashed) x = get_or_default names (length hashed) [] x (omega (arith, at, within)) in
-      let known : Ok o ≡ hash_name hash x = rw (read, at) (from i inside) in
+  -- a hash that a hasher gave, that is of use, and that is put behind those before it
+  pub next_hashed : (hashed new : List Hashed) (x : Name) (octets : Octets) (place : ℕ) (h : Hashed) → place ≡ length hashed → place < length names
+      → x ≡ get_or names place x → Ok octets ≡ hash_name hash x → IsPlacedHash a octets place h → new ≡ hashed ++ h ∷ []
+      → AreFirstHashes a hash names hashed → (place + 1 ≡ length new) × AreFirstHashes a hash names new
+  next_hashed hashed new x octets place h at within there known placed is so_far =
       let is_hashed : IsHashed a hash x h.hash = grind (arith, common_steps) in
-      one_hashed hashed new x h (omega (arith, at, within)) there placed.there is_hashed is so_far
+      let more = length_push hashed h in (
+        grind (arith, common_steps),
+        one_hashed hashed new x h (grind (arith, common_steps)) (grind (arith, common_steps)) (grind (arith, common_steps)) is_hashed is so_far,
+      )
 
   pub all_hashed : (hashed : List Hashed) → length names ≤ length hashed → AreFirstHashes a hash names hashed → AreHashesOf a hash names hashed
   all_hashed hashed past h = grind (arith, common_steps, IsPermutation-refl)

@@ -62,11 +62,6 @@ pub record IsPlacedHash (a : Name) (hash : Octets) (place : ℕ) (h : Hashed) : 
   pub sound : hash_fault a (Ok hash) ≡ None
   pub octets : All (λ octet. octet < 256) hash
 
--- the hashes of the names from this place on
-abbrev pub AreHashesFrom : Hash → List Name → ℕ → List Octets → Type 0
-AreHashesFrom hash names start hashes = (i : ℕ) → i < length hashes
-    → Ok (slice_index_or hashes i []) ≡ hash_name hash (slice_index_or names (start + i) [])
-
 -- the hashes of the first of these names, in their order
 pub record AreFirstHashes (a : Name) (hash : Hash) (names : List Name) (hashed : List Hashed)
     : Type 0 where

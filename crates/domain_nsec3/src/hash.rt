@@ -1,14 +1,13 @@
 //! Hashes of names, each stored inline, and their text.
 ghost use Rattle.std.specs.Prelude.{◌≡◌, ◌≤◌, length, take, map, ◌+◌, ◌<◌, ◌++◌, ◌∷◌, ◌⊎◌, [], Ok, Err, Some, None};
-ghost use Rattle.std.specs.Prelude.{All, List, IfOk, IfErr, IfSome, IsErrOf, OnOk, OnSome, vec_capacity, vec_len};
+ghost use Rattle.std.specs.Prelude.{All, IfOk, IfErr, IfSome, IsErrOf, OnOk, OnSome, vec_capacity, vec_len};
 ghost use Rattle.std.specs.{Ordering.nat_cmp, Cmp.Lexicographic.slice_cmp, Fmt.WritesOnOk};
 ghost use Rattle.domain_octets.specs.{Octets.Octets, Text.dot};
 ghost use Rattle.domain_codecs.specs.Base32.{base32_lower};
-ghost use Rattle.domain_nsec3.specs.{Chain.{hashed_owner, hash_name, hash_fault, Hash, IsNoHash}, Steps.AreHashesOf};
-ghost use Rattle.domain_nsec3.specs.Steps.{AreFirstHashes, AreHashesFrom, IsFirstRefused, IsHashed};
-ghost use Rattle.domain_nsec3.specs.Steps.{IsPlacedHash, IsRefusal};
+ghost use Rattle.domain_nsec3.specs.{Chain.{hashed_owner, hash_name, hash_fault, IsNoHash}, Steps.AreHashesOf};
+ghost use Rattle.domain_nsec3.specs.Steps.{AreFirstHashes, IsFirstRefused, IsHashed, IsPlacedHash, IsRefusal};
 ghost use Rattle.domain_nsec3.specs.View.{hash_by, parameters_of};
-ghost use Rattle.domain_names.specs.{Name.Name, Text.name_text};
+ghost use Rattle.domain_names.specs.Text.{name_text};
 ghost use Rattle.domain_hasher.specs.declared.error.Nsec3HashError.TheVariants as hash_error;
 
 use domain_base::{MAX_NAME, MakeName, Nsec3HashAlgorithm, ParsedName, ToName};
@@ -266,25 +265,25 @@ fn place_hash(apex: &ParsedName<'_>, hash: &[u8], place: usize) -> Option<Hashed
     Some(Hashed { hash, place })
 }
 
-/// Returns the hashes of the four names from a place on, in their order; nothing if the hasher
-/// returns an error.
+/// Returns the hashes of four names, in their order, or `None` if the hasher returns an error for
+/// one of them.
 fn hash_four<H: Nsec3Hasher, O: Octets>(
     alloc: Global,
     hasher: &H,
     params: &Nsec3param<O>,
-    names: &[ParsedName<'_>],
-    at: usize,
+    names: [&ParsedName<'_>; 4],
 ) -> Option<[Vec<u8>; 4]>
-    requires { at + 4 ≤ length names.now }
-    ensures { IfSome result (λ hashes. AreHashesFrom (hash_by (H.answer hasher.now)
-        (parameters_of params.now)) names.now at (map (λ hash. hash.items) hashes)) }
+    ensures { IfSome result (λ hashes. map (λ hash. Ok hash.items) hashes
+        ≡ map (λ name. hash_name (hash_by (H.answer hasher.now) (parameters_of params.now))
+        name.now) names.entry) }
 {
+    let [first, second, third, fourth] = names;
     let (mut a, mut b, mut c, mut d) = ([0; MAX_NAME], [0; MAX_NAME], [0; MAX_NAME], [0; MAX_NAME]);
     let wires = [
-        names[at].lower_wire(&mut a),
-        names[at + 1].lower_wire(&mut b),
-        names[at + 2].lower_wire(&mut c),
-        names[at + 3].lower_wire(&mut d),
+        first.lower_wire(&mut a),
+        second.lower_wire(&mut b),
+        third.lower_wire(&mut c),
+        fourth.lower_wire(&mut d),
     ];
     let (algorithm, iterations) = (params.hash_algorithm(), params.iterations());
     let salt = params.salt().as_slice();
@@ -294,28 +293,9 @@ fn hash_four<H: Nsec3Hasher, O: Octets>(
     Some(hashes)
 }
 
-/// Appends hashes, each with the place of its name, up to the first that is not of use below the
-/// apex; returns whether all are.
-fn push_hashes(apex: &ParsedName<'_>, hashes: &[Vec<u8>; 4], hashed: &mut Vec<Hashed>) -> Option<()>
-    requires room { length hashed.old.items + 4 ≤ vec_capacity hashed.old }
-    ensures hashes { (hash : Hash) (names : List Name) → length hashed.old.items + 4 ≤ length names
-        → AreHashesFrom hash names (length hashed.old.items)
-        (map (λ octets. octets.items) hashes.now)
-        → AreFirstHashes apex.now hash names hashed.old.items
-        → AreFirstHashes apex.now hash names hashed.new.items }
-    ensures four { OnSome result (length hashed.new.items ≡ length hashed.old.items + 4) }
-    ensures capacity { vec_capacity hashed.new ≡ vec_capacity hashed.old }
-{
-    'hashes: for i in 0..4 {
-        let placed = place_hash(apex, hashes[i].as_slice(), hashed.len())?;
-        hashed.push_reserved(placed);
-    }
-    Some(())
-}
-
 /// Appends the hashes of the next four names to those of the names before them, each with the place
-/// of its name; returns whether it did. It appends fewer, or none, if the hasher returns an error or
-/// a hash is not of use.
+/// of its name. Appends nothing and returns `None` if one of the four has an error, or if the
+/// hasher is out of memory.
 fn push_four<H: Nsec3Hasher, O: Octets>(
     alloc: Global,
     hasher: &H,
@@ -331,10 +311,21 @@ fn push_four<H: Nsec3Hasher, O: Octets>(
     ensures hashes { AreFirstHashes apex.now (hash_by (H.answer hasher.now)
         (parameters_of params.now)) names.now hashed.new.items }
     ensures four { OnSome result (length hashed.new.items ≡ length hashed.old.items + 4) }
+    ensures none { (result ≡ None) → hashed.new.items ≡ hashed.old.items }
     ensures capacity { vec_capacity hashed.new ≡ vec_capacity hashed.old }
 {
-    let hashes = hash_four(alloc, hasher, params, names, hashed.len())?;
-    push_hashes(apex, &hashes, hashed)
+    let at = hashed.len();
+    let group = [&names[at], &names[at + 1], &names[at + 2], &names[at + 3]];
+    let hashes = hash_four(alloc, hasher, params, group)?;
+    let first = place_hash(apex, hashes[0].as_slice(), at)?;
+    let second = place_hash(apex, hashes[1].as_slice(), at + 1)?;
+    let third = place_hash(apex, hashes[2].as_slice(), at + 2)?;
+    let fourth = place_hash(apex, hashes[3].as_slice(), at + 3)?;
+    hashed.push_reserved(first);
+    hashed.push_reserved(second);
+    hashed.push_reserved(third);
+    hashed.push_reserved(fourth);
+    Some(())
 }
 
 /// Appends the hashes of names to an empty list with room for them, four at a time, each with the
