@@ -14,19 +14,19 @@ module _ {N D : Type 0} (v : View N D) where
     -- the verdict is what some records of the chain of the given records prove about a name and a
     -- type
     abbrev pub IsProvedOf : List Link → Name → ℕ → Verdict → Type 0
-    IsProvedOf listed x t verdict = OfZone given
+    IsProvedOf listed x t verdict = OfZone v given
         (λ L. verdict ≡ proved_verdict L apex config.assume_dnskeys_will_be_added listed x t)
 
     -- the verdict is what the zone of the given records says of a name and a type
     abbrev pub IsSaidOf : Name → ℕ → Verdict → Type 0
-    IsSaidOf x t verdict = OfZone given
+    IsSaidOf x t verdict = OfZone v given
         (λ L. verdict ≡ zone_verdict L apex config.assume_dnskeys_will_be_added x t)
 
     -- the same of whole answers
     abbrev pub IsProvedAnswerOf : List Link → Name → ℕ → Answer → Type 0
-    IsProvedAnswerOf listed x t answer = OfZone given
+    IsProvedAnswerOf listed x t answer = OfZone v given
         (λ L. answer ≡ proved_answer L apex config.assume_dnskeys_will_be_added listed x t)
 
     abbrev pub IsAnswerOf : Name → ℕ → Answer → Type 0
-    IsAnswerOf x t answer = OfZone given
+    IsAnswerOf x t answer = OfZone v given
         (λ L. answer ≡ zone_answer L apex config.assume_dnskeys_will_be_added x t)
