@@ -1,7 +1,4 @@
 -- What is told is deserved, and what is deserved is told.
-use Rattle.std.{proofs.lemmas.{Bool.cases_Bool, List.Folds.find-append}, specs.Prelude.{IfSome, None, Option, if◌then◌else◌, unwrap_or}}
-use Rattle.domain_octets.proofs.StdLemmas.{or_none}
-use Rattle.lint_program.specs.declared.looks.Placed.{Placed}
 use Rattle.std.proofs.Common.{arith, Some, ◌≡◌, ℕ, Bool, true, cond, ◌&&◌, ◌==◌, ◌+◌, ◌<◌, List, [], ◌∷◌, ◌++◌, refl, ap, sym, ◌∙◌, get_or, length, map, take}
 use Rattle.std.{proofs.{Common.{◌⊎◌, inl, inr, length-append}, lemmas.{Grind.common_steps, List.take_more, Bool.and_parts}}, specs.Ordering.{is_eq, nat_cmp}}
 use Rattle.std.specs.{Ordering.ordering_then, Cmp.unsigned_tied, List.{find, AllByRecursion}, declared.cmp.Ordering.Ordering}
@@ -38,25 +35,6 @@ first_alike t u (s ∷ rs) h = ap (λ b. cond b (Some s) (find t rs)) (h s) ∙ 
 
 pub same_first : (l : Look) (a : Name) (before : List RawRecord) (k q : Group) → is_group k q ≡ true → first_in l a before q ≡ first_in l a before k
 same_first l a before k q e = sym (first_alike _ _ before (λ s. group_congr (group_of l a s) k q e))
-
--- the first of a group stays when more records come
-pub first_stays : (l : Look) (a : Name) (before : List RawRecord) (r s : RawRecord) (g : Group) → first_in l a before g ≡ Some s
-    → first_in l a (before ++ r ∷ []) g ≡ Some s
-first_stays l a before r s g h = grind (arith, common_steps, find-append, or_none)
-
-pub last_stays : (l : Look) (a : Name) (before : List RawRecord) (r : RawRecord) (last : Option (Group × Placed))
-    → IfSome last (λ q. first_in l a before q.0 ≡ Some q.1.borrowed.now) → IfSome last (λ q. first_in l a (before ++ r ∷ []) q.0 ≡ Some q.1.borrowed.now)
-last_stays l a before r None h = h
-last_stays l a before r (Some q) h = first_stays l a before r q.1.borrowed.now q.0 h
-
--- a group has its first record from the first that comes in it
-pub one_more : (l : Look) (a : Name) (before : List RawRecord) (r : RawRecord) (q : Group)
-    → first_in l a (before ++ r ∷ []) q ≡ (if is_group (group_of l a r) q then Some (unwrap_or (earlier l a before r) r) else first_in l a before q)
-one_more l a before r q =
-    elim (cases_Bool (is_group (group_of l a r) q)) [
-      | inl e ↦ grind (arith, common_steps, find-append, or_none, (same_first l a before (group_of l a r) q e))
-      | inr e ↦ grind (arith, common_steps, find-append, or_none)
-    ]
 
 -- ---- places
 

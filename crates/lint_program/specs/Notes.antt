@@ -1,12 +1,12 @@
 -- The notes about the records that were read: one for each record that deserves it, and no other.
 use Rattle.std.specs.Prelude.{◌≡◌, ℕ, ◌-◌, ◌<◌, ◌==◌, Bool, not, ◌||◌, [], ◌∷◌, drop, length, nat_lt, slice_index, if◌then◌else◌, codes, ◌≢◌, ◌⊎◌, true, false}
-use Rattle.std.specs.{Prelude.{◌&&◌, List, ◌++◌, Option, Some, None, IfSome, IsSome, MatchOption, option_map}, List.{find, list_any}}
+use Rattle.std.specs.{Prelude.{◌&&◌, List, ◌++◌, Option, Some, None, IsSome, MatchOption, option_map}, List.{find, list_any}, BTreeMap.BTreeMap}
 use Rattle.std.specs.{Ordering.{nat_cmp, ordering_then}, declared.cmp.Ordering.Ordering}
 use Rattle.domain_octets.specs.Octets.{Octets}
 use Rattle.domain_names.specs.{Wire.IsWire, Name.{is_at_or_below, same_name, Name, canonical_cmp}}
 use Rattle.lint_program.specs.declared.odd.Shape.{Shape, TheVariants.{OneName, Texts, LongAddress, Service, Certificate, Issuers, Whatever}}
 use Rattle.lint_program.specs.declared.looks.Reason.{Reason, TheVariants.{NoSoa, SecondSoa, StraySoa, OtherClass, OtherTtl, Outside, BesideAlias, OddData}}
-use Rattle.lint_program.specs.declared.{looks.{Reason.TheVariants.Parameters, Look.Look}, notes.Note.Note, firsts.Firsts.Firsts}
+use Rattle.lint_program.specs.declared.{looks.{Reason.TheVariants.Parameters, Look.Look, Placed.Placed}, notes.Note.Note}
 use Rattle.domain_borrowed.specs.Data.{RawRecord}
 use Rattle.domain_base.specs.Types as rtypes
 use Rattle.lint_program.specs.declared.looks.Look.TheVariants as look
@@ -243,10 +243,8 @@ pub record HasMark (marks : List Mark) (number : ℕ) : Type 0 where
 abbrev pub group_cmp : Group → Group → Ordering
 group_cmp g h = ordering_then (canonical_cmp g.0 h.0) (nat_cmp g.1 h.1)
 
--- the map has the first of these records for each group; so does `last`, for the group of the last
--- record
-pub record AreFirsts (l : Look) (a : Name) (before : List RawRecord) (firsts : Firsts)
-    : Type 0 where
-  pub map : (g : Group) → option_map (λ p. p.borrowed.now) (tree.get group_cmp firsts.map g)
-      ≡ first_in l a before g
-  pub last : IfSome firsts.last (λ q. first_in l a before q.0 ≡ Some q.1.borrowed.now)
+-- the map has the first of these records for each group
+abbrev pub AreFirsts : Look → Name → List RawRecord → BTreeMap Group Placed → Type 0
+AreFirsts l a before firsts =
+    (g : Group) → option_map (λ p. p.borrowed.now) (tree.get group_cmp firsts g)
+    ≡ first_in l a before g

@@ -5,7 +5,7 @@ ghost use Rattle.lint_program.specs.Notes.{fails, group_of, is_apex_soa, look_of
 
 use crate::odd::{has_extras, is_such, shape_of};
 use crate::reading::Place;
-use domain_base::{ParsedName, Rtype, ToName};
+use domain_base::{Name, ParsedName, Rtype, ToName};
 use domain_borrowed::BorrowedRecord;
 
 /// What one pass over the records looks for.
@@ -70,7 +70,17 @@ pub struct Placed<'z, 'a> {
 }
 
 /// The key by which records are grouped: a name and a number.
-pub type Group<'z> = (ParsedName<'z>, u16);
+pub type Group<'z> = (Name<&'z [u8]>, u16);
+
+/// Returns a name as a part of a group. It borrows the octets.
+fn named<'z>(name: &'z ParsedName<'_>) -> Name<&'z [u8]>
+    ensures { result ≡ name.now }
+{
+    let Ok(named) = Name::from_octets(name.as_wire()) else {
+        unreachable!();
+    };
+    named
+}
 
 /// Returns whether the record is an SOA record of the apex.
 pub fn is_apex_soa(apex: &ParsedName<'_>, borrowed: &BorrowedRecord<'_>) -> bool
@@ -97,13 +107,13 @@ pub fn group_of<'z>(
 {
     let rtype = borrowed.rtype();
     match look {
-        Look::Soas => (apex.as_parsed(), u16::from(is_apex_soa(apex, borrowed))),
-        Look::Ttls => (borrowed.owner().as_parsed(), rtype.to_int()),
+        Look::Soas => (named(apex), u16::from(is_apex_soa(apex, borrowed))),
+        Look::Ttls => (named(borrowed.owner()), rtype.to_int()),
         Look::Aliases => (
-            borrowed.owner().as_parsed(),
+            named(borrowed.owner()),
             u16::from(stands_beside_alias(rtype)),
         ),
-        Look::Classes | Look::Outside | Look::Data => (apex.as_parsed(), 0),
+        Look::Classes | Look::Outside | Look::Data => (named(apex), 0),
     }
 }
 

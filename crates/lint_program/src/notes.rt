@@ -4,13 +4,14 @@ ghost use Rattle.std.specs.Prelude.{◌≡◌, ◌==◌, ◌++◌, List, OnOk, I
 ghost use Rattle.std.specs.List.{list_any};
 ghost use Rattle.lint_program.specs.Notes.{is_apex_soa, mark_of, missing_soa, AreNoted, Found, IsToldOf, Mark};
 
-use crate::firsts::{Firsts, first_in_group};
+use crate::firsts::first_in_group;
 use crate::looks::{Look, Placed, Reason, is_apex_soa, reason_of};
 use crate::note_text::text_of;
 use crate::reading::Lines;
 use domain_base::{ParsedName, ToName};
 use domain_borrowed::BorrowedRecord;
 use std::alloc::{AllocError, Global};
+use std::collections::BTreeMap;
 
 /// A note about a record, or about all records.
 #[derive(Drop)]
@@ -61,7 +62,7 @@ fn note_each<'z, 'a>(
         × Found look apex.now lines.now.records.items (map (λ p. p.number) lines.now.places.items)
         more × (map mark_of notes.new.items ≡ map mark_of notes.old.items ++ more)) }
 {
-    let mut firsts = Firsts::new(alloc);
+    let mut firsts = BTreeMap::new(alloc);
     for (i, borrowed) in lines.records.iter().enumerate() {
         let place = lines.places[i];
         let placed = Placed { borrowed, place };

@@ -4,7 +4,7 @@ use Rattle.lint_program.{specs.Notes.{mark_of, Found.nothing}, proofs.NoteLemmas
 use Rattle.lint_program.proofs.notes.note_each.Goals as goal
 
 pub loop-i-init : goal.loop-i-init
-loop-i-init c = (c.new-firsts.ensures _ _, ([], nothing c.args.look c.args.apex.now, sym (append-nil _)))
+loop-i-init c = (λ g. grind (arith, common_steps), ([], nothing c.args.look c.args.apex.now, sym (append-nil _)))
 
 pub loop-i-preserved : goal.loop-i-preserved
 loop-i-preserved c =
