@@ -78,9 +78,8 @@ fn judge_nsec3s<'a, W: Write, H: Nsec3Hasher>(
         (IsNotNsec3Judged (H.answer hasher.now) records.entry.items question.now asked)) }
     ensures untouched { IfErr result (λ e. IsBeforeOutput e → output.new ≡ output.old) }
 {
-    let made = chain_of(alloc, &question.apex, records)?;
-    let chain = &made;
-    let index = Nsec3Index::new(alloc, &question.apex, chain)?;
+    let chain = chain_of(alloc, &question.apex, records)?;
+    let index = Nsec3Index::new(alloc, &question.apex, &chain)?;
     let inquiry = Inquiry {
         alloc,
         question,
