@@ -13,7 +13,6 @@ use crate::told::{Parts, write_below};
 use denial_program::{DenialFault, Question, ZoneName, chain_of, fault_of, records_among};
 use domain_answer::{Answer, judge_nsec};
 use domain_borrowed::{BorrowedRecord, ReadNsec};
-use domain_checker::Nsec3Index;
 use domain_hasher::Nsec3Hasher;
 use std::alloc::Global;
 use std::io;
@@ -79,12 +78,10 @@ fn judge_nsec3s<'a, W: Write, H: Nsec3Hasher>(
     ensures untouched { IfErr result (λ e. IsBeforeOutput e → output.new ≡ output.old) }
 {
     let chain = chain_of(alloc, &question.apex, records)?;
-    let index = Nsec3Index::new(alloc, &question.apex, &chain)?;
     let inquiry = Inquiry {
         alloc,
         question,
-        nsec3param: &chain.nsec3param,
-        index: &index,
+        chain: &chain,
         hasher,
     };
     let answer = inquiry.answer(asked)?;

@@ -17,11 +17,12 @@ use crate::role::Role;
 use crate::shown::Shown;
 use crate::told::{Listed, Part, Parts};
 use denial_program::{DenialFault, Question, ZoneName};
-use domain_answer::{Answer, judge_nsec3_index, judge_nsec3_index_expansion};
+use domain_answer::{Answer, judge_nsec3, judge_nsec3_expansion};
 use domain_base::{MAX_NAME, ParsedName, ToName};
-use domain_borrowed::{ReadNsec3, ReadNsec3param};
-use domain_checker::{Nsec3Encloser, Nsec3Found, Nsec3Index};
+use domain_borrowed::ReadNsec3;
+use domain_checker::{Nsec3Encloser, Nsec3Found, find_nsec3, find_nsec3_encloser};
 use domain_hasher::{Nsec3HashError, Nsec3Hasher};
+use domain_nsec3::Nsec3Records;
 use std::alloc::Global;
 
 /// What NSEC3 records say of the closest encloser of a name.
@@ -34,10 +35,8 @@ pub struct Inquiry<'r, 'a, H: Nsec3Hasher> {
     pub alloc: Global,
     /// The question.
     pub question: &'r Question,
-    /// The NSEC3PARAM record.
-    pub nsec3param: &'r ReadNsec3param<'a>,
-    /// The index of the records.
-    pub index: &'r Nsec3Index<'r, &'a [u8], ParsedName<'a>>,
+    /// The records, with the NSEC3PARAM record.
+    pub chain: &'r Nsec3Records<ParsedName<'a>, &'a [u8]>,
     /// The hasher.
     pub hasher: &'r H,
 }
@@ -116,13 +115,13 @@ impl<'r, 'a, H: Nsec3Hasher> Inquiry<'r, 'a, H> {
         ensures err { IfErr result (IsRefusedWith (IsRefusalAsked asked.labels
             (records_of H.answer self.now) self.now.question.now asked.limit)) }
     {
-        let (alloc, index, hasher) = (self.alloc, self.index, self.hasher);
-        let Question { name, rtype, .. } = self.question;
+        let (alloc, chain, hasher) = (self.alloc, self.chain, self.hasher);
+        let Question { apex, name, rtype } = self.question;
         let Nsec3Options { labels, limit } = asked;
         let Some(labels) = labels else {
-            return Ok(judge_nsec3_index(alloc, index, name, *rtype, limit, hasher)?);
+            return Ok(judge_nsec3(alloc, apex, chain, name, *rtype, limit, hasher)?);
         };
-        Ok(judge_nsec3_index_expansion(alloc, index, name, labels as usize, limit, hasher)?)
+        Ok(judge_nsec3_expansion(alloc, apex, chain, name, labels as usize, limit, hasher)?)
     }
 
     /// Returns what the records say of a name, or None if the hasher fails for it.
@@ -135,7 +134,13 @@ impl<'r, 'a, H: Nsec3Hasher> Inquiry<'r, 'a, H> {
             ≡ nsec3_told (records_of H.answer self.now) role.entry name.now) }
         ensures err { IfErr result (λ e. e ≡ Memory) }
     {
-        match self.index.find_name(self.alloc, name, self.hasher) {
+        match find_nsec3(
+            self.alloc,
+            &self.question.apex,
+            self.chain,
+            name,
+            self.hasher,
+        ) {
             Ok(Nsec3Found::Match(nsec3)) => Ok(Some(Part {
                 role,
                 matches: true,
@@ -164,19 +169,19 @@ impl<'r, 'a, H: Nsec3Hasher> Inquiry<'r, 'a, H> {
     /// Returns what the records say of the names that a whole answer rests on.
     fn find_whole(&self, answer: Answer) -> Result<Parts<'r, 'a>, DenialFault>
         ensures ok { IfOk result (λ parts. AreWhole
-            (as_param_record (λ n. n) self.now.nsec3param.now) (records_of H.answer self.now)
+            (as_param_record (λ n. n) self.now.chain.now.nsec3param) (records_of H.answer self.now)
             self.now.question.now.name answer (Some (tellings_of parts))) }
         ensures err { IfErr result (IsRefusedWith
             (IsFirstRefusal (records_of H.answer self.now) self.now.question.now.name)) }
     {
-        let name = &self.question.name;
-        let found = self.index.find_encloser(self.alloc, name, self.hasher)?;
+        let Question { apex, name, .. } = self.question;
+        let found = find_nsec3_encloser(self.alloc, apex, self.chain, name, self.hasher)?;
         let wildcard = self.find_wildcard(answer)?;
         Ok(Parts {
             matched: encloser_part(name, &found),
             closer: closer_part(name, answer, &found),
             wildcard,
-            param: Some(self.nsec3param),
+            param: Some(&self.chain.nsec3param),
         })
     }
 
@@ -184,7 +189,7 @@ impl<'r, 'a, H: Nsec3Hasher> Inquiry<'r, 'a, H> {
     /// `labels`.
     fn find_closer(&self, labels: u8) -> Result<Parts<'r, 'a>, DenialFault>
         ensures ok { IfOk result (λ parts. tellings_of parts ≡ expansion_tellings
-            (as_param_record (λ n. n) self.now.nsec3param.now) (records_of H.answer self.now)
+            (as_param_record (λ n. n) self.now.chain.now.nsec3param) (records_of H.answer self.now)
             self.now.question.now.name labels) }
         ensures err { IfErr result (λ e. e ≡ Memory) }
     {
@@ -196,7 +201,7 @@ impl<'r, 'a, H: Nsec3Hasher> Inquiry<'r, 'a, H> {
             matched: None,
             closer,
             wildcard: None,
-            param: Some(self.nsec3param),
+            param: Some(&self.chain.nsec3param),
         })
     }
 
@@ -214,7 +219,7 @@ impl<'r, 'a, H: Nsec3Hasher> Inquiry<'r, 'a, H> {
         answer: Answer,
     ) -> Result<Option<Parts<'r, 'a>>, DenialFault>
         ensures ok { IfOk result (λ parts. AreNsec3Told (rests_on_records answer) shown labels
-            (as_param_record (λ n. n) self.now.nsec3param.now) (records_of H.answer self.now)
+            (as_param_record (λ n. n) self.now.chain.now.nsec3param) (records_of H.answer self.now)
             self.now.question.now.name answer (option_map tellings_of parts)) }
         ensures err { IfErr result (IsRefusedWith (IsRefusalBelow labels
             (records_of H.answer self.now) self.now.question.now.name)) }

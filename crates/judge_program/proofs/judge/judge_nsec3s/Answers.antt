@@ -16,10 +16,10 @@ told g c = record {
     single = c.in_ok-chain.ensures.param;
     links = hashed_links_of (λ n. n) c.in_ok-chain.chain.nsec3s.items;
     are = c.in_ok-chain.ensures.nsec3s;
-    is = rw c.in_ok-index.ensures at c.in_ok-answer.ensures.ok;
+    is = c.in_ok-answer.ensures.ok;
   };
   told = option_map tellings_of c.in_ok-parts.parts;
-  are = rw c.in_ok-index.ensures at c.in_ok-parts.ensures.ok;
+  are = c.in_ok-parts.ensures.ok;
   is = refl;
 }
 
