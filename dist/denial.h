@@ -42,22 +42,22 @@ extern "C" {
 #define DENIAL_VERSION 600
 
 /*
- * What denial_judge_nsec, denial_judge_nsec3 and denial_judge_nsec3_expansion answer: one of these, or
- * a fault of `enum denial_answer`. Compare it with the names: no answer is 0, so that none can stand
- * for a truth value.
- * Where an answer comes with labels, they are those of the name that it is about: the last so many
- * labels of the name that was asked for.
+ * What the functions denial_judge_* return: one of these, or a fault of `enum denial_answer`. Compare the
+ * result with these names. None of them is 0, so do not use a result as a truth value.
+ *
+ * Some come "with labels": the function writes a number of labels. It stands for a name, which is made of
+ * that many labels at the end of the name in the question.
  */
 enum denial_judgement {
-    /* The records do not prove what the zone says; or the one that matches the name stands at a zone
-     * cut and lists SOA, so that it is of the child zone's apex (RFC 6840, section 4.4). */
+    /* The records do not prove what the zone says. Also: the record that matches the name is at a zone
+     * cut and lists SOA, so it belongs to the child zone's apex (RFC 6840, section 4.4). */
     DENIAL_JUDGED_NOT_PROVEN = 32,
 
     /* The name is not at or below the apex. */
     DENIAL_JUDGED_OUTSIDE_ZONE = 33,
 
     /* The type is DS and the name is the apex: the parent zone has these records (RFC 4035, section
-     * 2.4). Says nothing of the delegation. */
+     * 2.4). This says nothing about the delegation. */
     DENIAL_JUDGED_AT_PARENT = 34,
 
     /* The name is strictly below a zone cut, or is one and the type is not DS: the child zone answers
@@ -75,61 +75,61 @@ enum denial_judgement {
      * section 5.2). */
     DENIAL_JUDGED_NO_DS = 38,
 
-    /* The name owns a CNAME record, which answers in the place of the type (RFC 1034, section 3.6.2).
-     */
+    /* The name owns a CNAME record, which answers instead of the type (RFC 1034, section 3.6.2). */
     DENIAL_JUDGED_ALIAS = 39,
 
     /* The name exists and owns no records of the type (NODATA; RFC 2308, section 2.2): it owns records
      * of other types, or is an empty non-terminal. */
     DENIAL_JUDGED_NO_DATA = 40,
 
-    /* There is no such name, and the wildcard below its closest encloser owns records of the type or
+    /* The name does not exist, and the wildcard below its closest encloser owns records of the type or
      * is a zone cut (RFC 4592, section 3.3). With the labels of the closest encloser. */
     DENIAL_JUDGED_WILDCARD = 41,
 
-    /* There is no such name, and the wildcard below its closest encloser owns a CNAME record. With the
+    /* The name does not exist, and the wildcard below its closest encloser owns a CNAME record. With the
      * labels of the closest encloser. */
     DENIAL_JUDGED_WILDCARD_ALIAS = 42,
 
-    /* There is no such name, and the wildcard below its closest encloser exists and owns no records of
-     * the type (RFC 4035, section 3.1.3.4). With the labels of the closest encloser. */
+    /* The name does not exist, and the wildcard below its closest encloser exists but owns no records
+     * of the type (RFC 4035, section 3.1.3.4). With the labels of the closest encloser. */
     DENIAL_JUDGED_WILDCARD_NO_DATA = 43,
 
-    /* There is no such name, and no wildcard below its closest encloser (NXDOMAIN; RFC 2308, section
+    /* Neither the name nor the wildcard below its closest encloser exists (NXDOMAIN; RFC 2308, section
      * 2.1). With the labels of the closest encloser. */
     DENIAL_JUDGED_NAME_ERROR = 44,
 
-    /* The name, or one above it, may be an unsigned delegation that the NSEC3 chain leaves out by
-     * opt-out (RFC 5155, section 6): no name error, and no secure answer either. With the labels of the
-     * closest encloser. NSEC3 alone. */
+    /* The name, or a name above it, may be an unsigned delegation that the NSEC3 chain leaves out by
+     * opt-out (RFC 5155, section 6). This is neither a name error nor a secure answer. With the labels of
+     * the closest encloser. NSEC3 only. */
     DENIAL_JUDGED_MAY_BE_UNSIGNED = 45,
 
-    /* There is no such name, and the records say nothing of the wildcard below its closest encloser:
-     * no name error. It is what an answer needs that was expanded from that wildcard (RFC 4035, section
-     * 5.3.4). With the labels of the closest encloser, which the field Labels of the answer's
-     * signatures must be. */
+    /* The name does not exist, and the records say nothing about the wildcard below its closest encloser.
+     * This is no name error. Data that were expanded from that wildcard need it (RFC 4035, section
+     * 5.3.4). With the labels of the closest encloser. The field Labels of the signatures of the data must
+     * be the same number. */
     DENIAL_JUDGED_NO_CLOSER_NAME = 46,
 
-    /* The records have more iterations than are allowed; nothing was hashed (RFC 9276, section 3.2).
-     * NSEC3 alone. */
+    /* The records have more iterations than the limit. Nothing was hashed (RFC 9276, section 3.2). NSEC3
+     * only. */
     DENIAL_JUDGED_TOO_MANY_ITERATIONS = 47
 };
 
-/* What denial_nsec_chain and denial_nsec3_chain answer where there is a chain, with the number of its
- * octets; else they answer a fault of `enum denial_answer`. */
+/* What denial_nsec_chain and denial_nsec3_chain return if there is a chain. Otherwise they return a fault of
+ * `enum denial_answer`. */
 enum denial_chain {
-    /* The chain was written. */
+    /* The chain was written. With the number of its octets. */
     DENIAL_CHAIN_MADE = 48
 };
 
-/* What denial_nsec3_collision answers where no two names of a chain have one hash; where two have, it
- * answers DENIAL_COLLISION with their names, else another fault of `enum denial_answer`. */
+/* What denial_nsec3_collision returns if no two names of a chain have the same hash. If two have, it returns
+ * DENIAL_COLLISION. Otherwise it returns another fault of `enum denial_answer`. */
 enum denial_collision {
-    /* No two names of the chain hash alike. */
+    /* No two names of the chain have the same hash. */
     DENIAL_NO_COLLISION = 49
 };
 
-/* What a call to check answers: a verdict, which is below DENIAL_FAULT; and the faults of all calls. */
+/* What the functions denial_check_* return, and the faults of all functions. Verdicts are less than
+ * DENIAL_FAULT. */
 enum denial_answer {
     /* The records do not prove what the zone says. */
     DENIAL_NOT_PROVEN = 0,
@@ -137,103 +137,101 @@ enum denial_answer {
     /* The name is not at or below the apex. */
     DENIAL_OUTSIDE_ZONE = 1,
 
-    /* The name is strictly below a zone cut; or it is one, and the type is neither listed there nor
-     * DS. The child zone answers. */
+    /* The name is strictly below a zone cut. Or it is one, and the type is neither listed there nor DS.
+     * The child zone answers. */
     DENIAL_BELOW_DELEGATION = 2,
 
     /* The name owns records of the type. */
     DENIAL_HAS = 3,
 
-    /* The name owns records, and none of the type. No proof of no data where the name owns a CNAME
-     * record, which answers in the place of the type: ask for the type CNAME (5) at the name too,
-     * and take DENIAL_HAS for an alias (RFC 6840, section 4.3). */
+    /* The name owns records, but none of the type. This does not prove no data if the name owns a CNAME
+     * record, which answers instead of the type. Check the type CNAME (5) at the name too: DENIAL_HAS then
+     * means an alias (RFC 6840, section 4.3). */
     DENIAL_NO_TYPE = 4,
 
-    /* The name owns no records, and a name below it does: it is an empty non-terminal. As to a DNAME
-     * record above it, see DENIAL_NO_NAME. */
+    /* The name owns no records, but a name below it does: it is an empty non-terminal. For DNAME records
+     * above it, see DENIAL_NO_NAME. */
     DENIAL_EMPTY_NAME = 5,
 
-    /* The name, or one above it, may be an unsigned delegation that the chain leaves out. Comes
-     * with the labels of the closest encloser. NSEC3 alone. */
+    /* The name, or a name above it, may be an unsigned delegation that the chain leaves out. With the
+     * labels of the closest encloser. NSEC3 only. */
     DENIAL_OPT_OUT = 6,
 
-    /* There is no such name. Comes with the labels of the closest encloser. A wildcard below the
-     * closest encloser may still answer: ask for that name too. No proof of a name error where the
-     * closest encloser, or a name between it and the apex, owns a DNAME record, which redirects all
-     * names below it: ask for the type DNAME (39) at each of these, and take DENIAL_HAS for a
-     * redirection (RFC 6840, section 4.1). */
+    /* The name does not exist. With the labels of the closest encloser. A wildcard below the closest
+     * encloser may still answer: check that name too. This does not prove a name error if the closest
+     * encloser, or a name between it and the apex, owns a DNAME record, which redirects all names below it.
+     * Check the type DNAME (39) at each of these: DENIAL_HAS then means a redirection (RFC 6840, section
+     * 4.1). */
     DENIAL_NO_NAME = 7,
 
     /* The least number of a fault. */
     DENIAL_FAULT = 16,
 
-    /* The octets of the apex are no name. */
+    /* The octets of the apex do not encode a name. */
     DENIAL_BAD_APEX = 16,
 
-    /* The octets of the name are no name. */
+    /* The octets of the name do not encode a name. */
     DENIAL_BAD_NAME = 17,
 
-    /* The octets of the records are no records one after another; or a record that counts has data
-     * that are none of its type. Where a chain is made, with the offset of the first octet that is of
-     * no record. */
+    /* The octets of the records are not a sequence of records. Or a record that is not skipped has data
+     * that are not of its type. The functions of chains come with the offset of the first octet that
+     * belongs to no record. */
     DENIAL_BAD_RECORDS = 18,
 
-    /* The apex has no NSEC3PARAM record of the class, or several. NSEC3 alone, and not where the first
-     * NSEC3 record tells the parameters. */
+    /* The apex has no NSEC3PARAM record of the class, or several. NSEC3 only, and never from the functions
+     * that end with _alone. */
     DENIAL_NO_PARAM = 19,
 
-    /* The records have a hash algorithm other than SHA-1. NSEC3 alone, and not where the first NSEC3
-     * record tells the parameters. */
+    /* The records have a hash algorithm other than SHA-1. NSEC3 only, and never from the functions that end
+     * with _alone. */
     DENIAL_HASHER_REFUSED = 20,
 
-    /* There is not enough memory. No answer of denial_check_nsec. */
+    /* There is not enough memory. Never from denial_check_nsec. */
     DENIAL_OUT_OF_MEMORY = 21,
 
-    /* A record is of another class than the one that is asked for. With the offset of the first such
-     * record. Chains alone, as all that follow. */
+    /* A record has another class than `rclass`. With the offset of the first such record. This and all
+     * following faults come from the functions of chains only. */
     DENIAL_OTHER_CLASS = 22,
 
-    /* The apex owns no SOA record or several, or the data of the one are shorter than its field MINIMUM. */
+    /* The apex does not own exactly one SOA record, or its data are too short for the field MINIMUM. */
     DENIAL_NO_SINGLE_SOA = 23,
 
-    /* Two records of one owner of the chain and one type other than RRSIG differ in their TTLs (RFC
-     * 2181, section 5.2). With the offset of a record: of those of its owner and type the first that has
-     * another TTL than the ones before it. Of several owners with such records it is of the first in
-     * canonical order, and of several types of the least. */
+    /* Two records of one owner of the chain and one type, other than RRSIG, have different TTLs (RFC 2181,
+     * section 5.2). With the offset of the first record of that owner and type whose TTL is not that of the
+     * records before it. If there are several such owners, it is the first one in canonical order; if there
+     * are several types, the least one. */
     DENIAL_UNEQUAL_TTLS = 24,
 
-    /* The buffer is too small. With the number of octets that the chain has. */
+    /* The buffer is too small. With the number of octets of the chain. */
     DENIAL_SHORT_BUFFER = 25,
 
-    /* The salt has over 255 octets (RFC 5155, section 3.1.4). NSEC3 alone, as both below. */
+    /* The salt has over 255 octets (RFC 5155, section 3.1.4). This and the two below: NSEC3 only. */
     DENIAL_LONG_SALT = 26,
 
-    /* The owner of a hash, 33 octets before the apex, would be longer than a name may be. */
+    /* The owner of a hash, 33 octets and the apex, would be longer than a name may be. */
     DENIAL_LONG_OWNER = 27,
 
-    /* Two names of the chain have one hash (RFC 5155, section 7.1): take another salt.
-     * denial_nsec3_collision says which. */
+    /* Two names of the chain have the same hash (RFC 5155, section 7.1): use another salt.
+     * denial_nsec3_collision returns the names. */
     DENIAL_COLLISION = 28
 };
 
-/*
- * The version of the library: 10000 times its major number, 100 times its minor number, and its
- * patch.
- */
+/* Returns the version of the library: 10000 * major + 100 * minor + patch. */
 uint32_t denial_version(void);
 
-/* How many octets each text has, with the octet 0 after it. */
+/* The octets of each text, with the octet 0 at its end. */
 #define DENIAL_TEXT_ROOM 32
 
 /*
- * Hands out, at `text`, the text of a number of one of the enums here, and of any other number one that
- * says that it is none: DENIAL_TEXT_ROOM octets of ASCII, of which all after the text are 0. They last as
- * long as the program, and are never written. `text` must point to a pointer to as many octets, whatever
- * these are. C calls denial_text.
+ * Sets `text` to the text of a number of the enums here, or to a text for unknown numbers. It has
+ * DENIAL_TEXT_ROOM octets of ASCII, and those after the text are 0. They stay valid as long as the program
+ * runs, and nothing writes to them. `text` must point to a pointer to at least as many octets, whatever they
+ * are. From C, call denial_text.
  */
 void denial_find_text(uint32_t number, const char **text);
 
-/* The text of a number, as "name error" of DENIAL_JUDGED_NAME_ERROR. Lasts as long as the program. */
+/* Returns the text of a number, such as "name error" for DENIAL_JUDGED_NAME_ERROR. It stays valid as long as
+ * the program runs. */
 static inline const char *denial_text(uint32_t number)
 {
     static const char none[DENIAL_TEXT_ROOM] = {0};
@@ -244,31 +242,30 @@ static inline const char *denial_text(uint32_t number)
 }
 
 /*
- * What the NSEC records of the class answer to the question about the name and the type, as a whole.
+ * Judges the question about a name and a type as a whole, by the NSEC records of a class.
  *
- *   apex, name   a name each, as it stands in a message without compression (RFC 1035, section
- *                3.1): its labels, each after an octet with its length, and an octet 0. At most 255
- *                octets. Letters may be in either case.
- *   rtype        the number of the type that is asked for.
- *   rclass       the number of the class; 1 for the Internet.
- *   records      records one after another, in any order, each as it stands in a message without
- *                compression (RFC 1035, section 4.1.3): owner, type, class, TTL, length of the
- *                data, data. Names in the data of NSEC records are not compressed either. Records
- *                of other types and classes are passed over, whatever their data: all records of a
- *                message may be handed in. There may be none.
- *   labels       where the number of labels that the answer comes with is written, the root not
- *                counted. 0 where the answer comes with none.
+ *   apex, name   a name each, as in a message without compression (RFC 1035, section 3.1): labels, each
+ *                after an octet with its length, and an octet 0. At most 255 octets. Letters may be in
+ *                either case.
+ *   rtype        the number of the type in the question.
+ *   rclass       the number of the class: 1 for the Internet.
+ *   records      a sequence of records in any order, each as in a message without compression (RFC 1035,
+ *                section 4.1.3): owner, type, class, TTL, length of the data, data. Names in the data of
+ *                NSEC records are not compressed either. Records of other types and classes are skipped,
+ *                whatever their data: you may pass all records of a message. There may be none.
+ *   labels       where to write the number of labels that the answer comes with, the root not counted. 0 if
+ *                the answer comes with none.
  *
- * Answers a number of `enum denial_judgement`, or a fault of `enum denial_answer`. Of faults the first
- * counts, in the order of their numbers.
+ * Returns a number of `enum denial_judgement`, or a fault of `enum denial_answer`: the one with the least
+ * number, if there are several.
  *
- * NSEC records whose owner or next name is not at or below the apex are passed over. Where several
- * match a name, the first counts, and where none does, the first that covers it. Where the name does
- * not exist, the wildcard below its closest encloser is looked for in the same way.
+ * NSEC records whose owner or next name is not at or below the apex are skipped. If several records match a
+ * name, the first one counts. If none does, the first one that covers it counts. If the name does not exist,
+ * the wildcard below its closest encloser is looked up in the same way.
  *
- * Takes memory for the NSEC records by malloc and realloc, and frees it by free, all before it
- * returns; where there is none, DENIAL_OUT_OF_MEMORY may come in place of another answer. Not to be
- * called from a signal handler, nor from the forked child of a process with threads.
+ * Allocates memory for the NSEC records by malloc and realloc, and frees it by free before it returns. Without
+ * memory, DENIAL_OUT_OF_MEMORY may replace another result. Do not call it from a signal handler, nor in the
+ * forked child of a process with threads.
  */
 uint32_t denial_judge_nsec(const uint8_t *apex, size_t apex_length,
                            const uint8_t *name, size_t name_length,
@@ -277,20 +274,20 @@ uint32_t denial_judge_nsec(const uint8_t *apex, size_t apex_length,
                            size_t *labels);
 
 /*
- * What the NSEC3 records of the class answer to the question about the name and the type, as a whole.
- * Parameters and answers are those of denial_judge_nsec, but for these:
+ * Judges the question about a name and a type as a whole, by the NSEC3 records of a class. Parameters and
+ * results are those of denial_judge_nsec, except for these:
  *
- *   limit        the most iterations that are allowed. Where the records have more, nothing is hashed,
- *                and the answer is DENIAL_JUDGED_TOO_MANY_ITERATIONS (RFC 9276, section 3.2).
- *   records      exactly one NSEC3PARAM record of the apex and the class is among them. A response has
- *                none: for its records call denial_judge_nsec3_alone.
+ *   limit        the greatest number of iterations that is allowed. If the records have more, nothing is
+ *                hashed, and the result is DENIAL_JUDGED_TOO_MANY_ITERATIONS (RFC 9276, section 3.2).
+ *   records      they hold exactly one NSEC3PARAM record of the apex and the class. A response has none: for
+ *                its records call denial_judge_nsec3_alone.
  *
- * NSEC3 records with another algorithm, iterations or salt than the NSEC3PARAM record, or whose owner
- * is not one label in Base 32 hex before the apex, are passed over. A hash is computed for the name,
- * for each name above it up to the first that a record matches, and for the wildcard where it decides;
- * each hash costs as many digests as the records have iterations, and one more.
+ * NSEC3 records are skipped if their algorithm, iterations or salt differ from the NSEC3PARAM record, or if
+ * their owner is not one label in Base 32 hex and the apex. Hashed are the name, each name above it up to the
+ * first that a record matches, and the wildcard if it decides. A hash costs one digest, and one for each
+ * iteration.
  *
- * Takes memory as denial_judge_nsec does.
+ * Allocates memory as denial_judge_nsec does.
  */
 uint32_t denial_judge_nsec3(const uint8_t *apex, size_t apex_length,
                             const uint8_t *name, size_t name_length,
@@ -299,17 +296,16 @@ uint32_t denial_judge_nsec3(const uint8_t *apex, size_t apex_length,
                             size_t *labels);
 
 /*
- * What the NSEC3 records of the class answer to the question, where no NSEC3PARAM record is among them,
- * as in a response: the first of them tells algorithm, iterations and salt. Parameters and answers are
- * those of denial_judge_nsec3, but for these:
+ * The same without an NSEC3PARAM record, as for a response: the algorithm, iterations and salt are those of
+ * the first NSEC3 record. Parameters and results are those of denial_judge_nsec3, except for these:
  *
- *   records      no NSEC3PARAM record is wanted; records of this type are passed over as all others are.
- *                NSEC3 records whose owner is not at or below the apex, whose algorithm is not SHA-1, or
- *                that have a flag beside that of opt-out, are passed over, and tell no parameters (RFC 5155,
- *                sections 8.1 and 8.2). Of those that are left the first tells them, and those with others
- *                are passed over as well. Where none is left nothing is proved.
+ *   records      records of type NSEC3PARAM are skipped, as all other types are. An NSEC3 record is skipped,
+ *                and its parameters do not count, if its owner is not at or below the apex, its algorithm is
+ *                not SHA-1, or it has a flag other than opt-out (RFC 5155, sections 8.1 and 8.2). The
+ *                parameters are those of the first record that is left. Records with other parameters are
+ *                skipped too. If no record is left, nothing is proved.
  *
- * DENIAL_NO_PARAM and DENIAL_HASHER_REFUSED never come. Takes memory as denial_judge_nsec does.
+ * DENIAL_NO_PARAM and DENIAL_HASHER_REFUSED are never returned. Allocates memory as denial_judge_nsec does.
  */
 uint32_t denial_judge_nsec3_alone(const uint8_t *apex, size_t apex_length,
                                   const uint8_t *name, size_t name_length,
@@ -318,31 +314,29 @@ uint32_t denial_judge_nsec3_alone(const uint8_t *apex, size_t apex_length,
                                   size_t *labels);
 
 /*
- * What the NSEC3 records of the class answer of a name whose records were expanded from a wildcard
- * (RFC 5155, section 8.8; RFC 4035, section 5.3.4). Such a response has no record of the closest
- * encloser, so that denial_judge_nsec3 answers DENIAL_JUDGED_NOT_PROVEN of it; the signatures of the
- * expanded records tell it. Parameters are those of denial_judge_nsec3, but that there is no type, and
- * in its place:
+ * Judges a name whose data were expanded from a wildcard, by the NSEC3 records of a class (RFC 5155, section
+ * 8.8; RFC 4035, section 5.3.4). Such a response has no record of the closest encloser, so denial_judge_nsec3
+ * returns DENIAL_JUDGED_NOT_PROVEN for it. The signatures of the data say what the closest encloser is.
+ * Parameters are those of denial_judge_nsec3, except that there is no type, and instead:
  *
- *   rrsig_labels the field Labels of the signatures of the expanded records (RFC 4034, section 3.1.3):
- *                how many labels the closest encloser has, right below which the wildcard stands. They
- *                were expanded where this is less than the number of labels of their owner, an
- *                asterisk as its first label not counted. Verify these signatures first.
+ *   rrsig_labels the field Labels of the signatures of the data (RFC 4034, section 3.1.3): the number of
+ *                labels of the closest encloser. The data were expanded if it is less than the number of
+ *                labels of their owner, a leading asterisk not counted. Verify these signatures first.
  *
- * Answers one of these, or a fault of `enum denial_answer`:
+ * Returns one of these, or a fault of `enum denial_answer`:
  *
  *   DENIAL_JUDGED_NO_CLOSER_NAME       a record covers the next closer name, the last rrsig_labels + 1
- *                                      labels of the name, and none matches it: there is no such name,
- *                                      and the wildcard answers. With rrsig_labels.
- *   DENIAL_JUDGED_MAY_BE_UNSIGNED      the same, but the record has the flag of opt-out: the name may
- *                                      be, or be below, an unsigned delegation. With rrsig_labels.
- *   DENIAL_JUDGED_NOT_PROVEN           no record covers it, or one matches it; or rrsig_labels are fewer
- *                                      than the labels of the apex, or not fewer than those of the name.
+ *                                      labels of the name, and none matches it: the name does not exist, and
+ *                                      the wildcard answers. With rrsig_labels.
+ *   DENIAL_JUDGED_MAY_BE_UNSIGNED      the same, but the record has the opt-out flag: the name may be an
+ *                                      unsigned delegation, or below one. With rrsig_labels.
+ *   DENIAL_JUDGED_NOT_PROVEN           no record covers it, or one matches it. Or rrsig_labels is less than
+ *                                      the labels of the apex, or not less than those of the name.
  *   DENIAL_JUDGED_OUTSIDE_ZONE         the name is not at or below the apex.
  *   DENIAL_JUDGED_TOO_MANY_ITERATIONS  the records have more iterations than the limit.
  *
- * No name is hashed but the next closer name. The same records are passed over as by
- * denial_judge_nsec3. Takes memory as denial_judge_nsec does.
+ * Only the next closer name is hashed. The records that denial_judge_nsec3 skips are skipped. Allocates memory
+ * as denial_judge_nsec does.
  */
 uint32_t denial_judge_nsec3_expansion(const uint8_t *apex, size_t apex_length,
                                       const uint8_t *name, size_t name_length,
@@ -351,8 +345,7 @@ uint32_t denial_judge_nsec3_expansion(const uint8_t *apex, size_t apex_length,
                                       size_t *labels);
 
 /*
- * The same, where no NSEC3PARAM record is among the records: as denial_judge_nsec3_alone is to
- * denial_judge_nsec3.
+ * The same without an NSEC3PARAM record, as denial_judge_nsec3_alone is to denial_judge_nsec3.
  */
 uint32_t denial_judge_nsec3_expansion_alone(const uint8_t *apex, size_t apex_length,
                                             const uint8_t *name, size_t name_length,
@@ -361,15 +354,13 @@ uint32_t denial_judge_nsec3_expansion_alone(const uint8_t *apex, size_t apex_len
                                             size_t *labels);
 
 /*
- * What the NSEC records of the class prove of the one name and the one type. Takes no memory.
- * Parameters are those of denial_judge_nsec; with DENIAL_OPT_OUT and DENIAL_NO_NAME come the labels of
- * the closest encloser.
+ * Checks what the NSEC records of a class prove about one name and one type. Allocates no memory. Parameters
+ * are those of denial_judge_nsec. DENIAL_NO_NAME comes with the labels of the closest encloser.
  *
- * Answers a number of `enum denial_answer`. Of faults the first counts, in the order of their
- * numbers.
+ * Returns a number of `enum denial_answer`: the fault with the least number, if there are several.
  *
- * NSEC records whose owner or next name is not at or below the apex are passed over. Where several
- * match the name, the first counts, and where none does, the first that covers it.
+ * NSEC records whose owner or next name is not at or below the apex are skipped. If several records match the
+ * name, the first one counts. If none does, the first one that covers it counts.
  */
 uint32_t denial_check_nsec(const uint8_t *apex, size_t apex_length,
                            const uint8_t *name, size_t name_length,
@@ -378,15 +369,15 @@ uint32_t denial_check_nsec(const uint8_t *apex, size_t apex_length,
                            size_t *labels);
 
 /*
- * What the NSEC3 records of the class prove of the one name and the one type. Parameters and answers
- * are those of denial_check_nsec; exactly one NSEC3PARAM record of the apex and the class is among the
- * records, and the same records are passed over as by denial_judge_nsec3.
+ * Checks what the NSEC3 records of a class prove about one name and one type. Parameters and results are those
+ * of denial_check_nsec. DENIAL_OPT_OUT comes with the labels of the closest encloser too. The records hold
+ * exactly one NSEC3PARAM record of the apex and the class. The records that denial_judge_nsec3 skips are
+ * skipped.
  *
- * A hash is computed for the name and for each name above it up to the first that a record matches.
- * There is no limit: refuse records with more iterations than you allow before the call (RFC 9276,
- * section 3.2).
+ * Hashed are the name and each name above it up to the first that a record matches. There is no limit: reject
+ * records with more iterations than you allow before the call (RFC 9276, section 3.2).
  *
- * Takes memory as denial_judge_nsec does.
+ * Allocates memory as denial_judge_nsec does.
  */
 uint32_t denial_check_nsec3(const uint8_t *apex, size_t apex_length,
                             const uint8_t *name, size_t name_length,
@@ -395,8 +386,7 @@ uint32_t denial_check_nsec3(const uint8_t *apex, size_t apex_length,
                             size_t *labels);
 
 /*
- * The same, where no NSEC3PARAM record is among the records: as denial_judge_nsec3_alone is to
- * denial_judge_nsec3.
+ * The same without an NSEC3PARAM record, as denial_judge_nsec3_alone is to denial_judge_nsec3.
  */
 uint32_t denial_check_nsec3_alone(const uint8_t *apex, size_t apex_length,
                                   const uint8_t *name, size_t name_length,
@@ -405,41 +395,39 @@ uint32_t denial_check_nsec3_alone(const uint8_t *apex, size_t apex_length,
                                   size_t *labels);
 
 /*
- * Writes the NSEC chain of a zone (RFC 4034, section 4; RFC 4035, section 2.3): one record for each owner
- * that is at or below the apex and not strictly below a zone cut, in canonical order, each pointing to
- * the next owner, the last one to the apex. Its TTL is the lesser of the SOA's MINIMUM and TTL (RFC 9077,
- * section 3.2). It lists the types of its owner with RRSIG and NSEC, at a zone cut only NS and DS of the
- * owner's.
+ * Writes the NSEC chain of a zone (RFC 4034, section 4; RFC 4035, section 2.3): one record for each owner that
+ * is at or below the apex and not strictly below a zone cut. The records are in canonical order. Each names the
+ * next owner, the last one names the apex. The TTL is the lesser of the SOA's MINIMUM and TTL (RFC 9077, section
+ * 3.2). A record lists the types of its owner, at a zone cut only NS and DS of them, and RRSIG and NSEC.
  *
- *   apex         the apex of the zone, a name as it stands in a message without compression.
- *   rclass       the number of the class that all records have.
+ *   apex         the apex of the zone, a name as in a message without compression.
+ *   rclass       the number of the class of all records.
  *   assume_dnskey
- *                whether the apex lists DNSKEY in any case, since such records will be added.
+ *                whether the apex lists DNSKEY in any case, because such records will be added.
  *   occlude_below_dname
- *                whether owners strictly below an owner of a DNAME record are left out as well (RFC 6672,
- *                section 2.4).
- *   records      the records of the zone one after another, in any order, each as it stands in a message
- *                without compression (RFC 1035, section 4.1.3). Of equal records, whose data are equal
- *                octet for octet, the first stays. Of data nothing is looked at but the last four octets of
- *                an SOA, which are its MINIMUM. Records outside of the zone are passed over, but that they
- *                count for DENIAL_BAD_RECORDS and DENIAL_OTHER_CLASS too.
- *   chain        a buffer for the records of the chain. They are written to its beginning, one after
- *                another in the same form; what follows them stays. denial_each_record goes over them.
- *   count        where the number is written that the answer comes with; 0 where it comes with none.
+ *                whether owners strictly below an owner of a DNAME record are left out too (RFC 6672, section
+ *                2.4).
+ *   records      the records of the zone in any order, each as in a message without compression (RFC 1035,
+ *                section 4.1.3). Of equal records, whose data are equal octet for octet, the first one counts.
+ *                Data are not read, except the last four octets of an SOA record, its MINIMUM. Records outside
+ *                of the zone are skipped, but may still cause DENIAL_BAD_RECORDS and DENIAL_OTHER_CLASS.
+ *   chain        a buffer for the records of the chain, in the same form. They are written to its beginning;
+ *                the octets after them do not change. denial_each_record goes over them.
+ *   count        where to write the number that the result comes with, or 0 if it comes with none.
  *
- * Answers DENIAL_CHAIN_MADE with the number of octets that were written, or a fault, of which the first
- * that stands is told in this order, and which leaves the buffer as it was:
+ * Returns DENIAL_CHAIN_MADE with the number of octets that were written, or a fault, which leaves the buffer as
+ * it was. The faults, in the order in which they are reported:
  *
  *   DENIAL_BAD_APEX
- *   DENIAL_BAD_RECORDS, DENIAL_OTHER_CLASS   whichever comes first in the octets, with its offset.
+ *   DENIAL_BAD_RECORDS, DENIAL_OTHER_CLASS   the one that comes first in the octets, with its offset.
  *   DENIAL_NO_SINGLE_SOA
- *   DENIAL_UNEQUAL_TTLS                      with the offset of a record that has another TTL than the ones
- *                                            before it of its owner and type.
- *   DENIAL_SHORT_BUFFER                      the chain has so many octets. A buffer of length 0 asks for
- *                                            that number.
+ *   DENIAL_UNEQUAL_TTLS                      with the offset of a record that has another TTL than the
+ *                                            records of its owner and type before it.
+ *   DENIAL_SHORT_BUFFER                      with the number of octets of the chain. Pass a buffer of length 0
+ *                                            to get that number.
  *
- * DENIAL_OUT_OF_MEMORY may come in place of the last four. Takes memory as denial_judge_nsec does: 48
- * octets and more for each record, and the octets of the chain.
+ * DENIAL_OUT_OF_MEMORY may replace the last three, and DENIAL_CHAIN_MADE. Allocates memory as denial_judge_nsec
+ * does: 48 octets and more for each record, and the octets of the chain.
  */
 uint32_t denial_nsec_chain(const uint8_t *apex, size_t apex_length,
                            uint16_t rclass, bool assume_dnskey, bool occlude_below_dname,
@@ -448,21 +436,21 @@ uint32_t denial_nsec_chain(const uint8_t *apex, size_t apex_length,
                            size_t *count);
 
 /*
- * Writes the NSEC3 chain of a zone (RFC 5155, section 7.1), in the order of hashes, and its NSEC3PARAM
- * record after it: one NSEC3 record for the hash of each owner that denial_nsec_chain has a record for,
- * and of each empty non-terminal above it, with the types of the owner. Names are hashed by SHA-1. All
- * records are of the class Internet, and have the TTL of an NSEC chain; the NSEC3PARAM record has that of
- * the SOA. Parameters and answers are those of denial_nsec_chain, but for these:
+ * Writes the NSEC3 chain of a zone (RFC 5155, section 7.1), in the order of hashes, and then its NSEC3PARAM
+ * record. The chain has one NSEC3 record for the hash of each owner that denial_nsec_chain has a record for, and
+ * of each empty non-terminal above it. It lists the types of the owner. Names are hashed by SHA-1. All records
+ * are of the class Internet. The NSEC3 records have the TTL of an NSEC chain, the NSEC3PARAM record has that of
+ * the SOA. Parameters and results are those of denial_nsec_chain, except for these:
  *
- *   iterations   how often a hash is taken again. 0 is recommended (RFC 9276, section 3.1).
- *   salt         the octets of the salt; none are recommended.
- *   opt_out      whether delegations without DS are left out, and the records say so by their flag (RFC
- *                5155, section 6).
+ *   iterations   the number of additional iterations. 0 is recommended (RFC 9276, section 3.1).
+ *   salt         the octets of the salt. No salt is recommended.
+ *   opt_out      whether delegations without DS are left out, and all records have the opt-out flag (RFC 5155,
+ *                section 6).
  *
- * Of faults the first that stands is told, in this order: DENIAL_BAD_APEX; DENIAL_LONG_SALT;
- * DENIAL_BAD_RECORDS and DENIAL_OTHER_CLASS, whichever comes first in the octets; DENIAL_NO_SINGLE_SOA;
- * DENIAL_UNEQUAL_TTLS; DENIAL_LONG_OWNER; DENIAL_COLLISION; DENIAL_SHORT_BUFFER. DENIAL_OUT_OF_MEMORY may
- * come in place of the last five. A call with a buffer of length 0 hashes all names as well.
+ * The faults, in the order in which they are reported: DENIAL_BAD_APEX; DENIAL_LONG_SALT; DENIAL_BAD_RECORDS or
+ * DENIAL_OTHER_CLASS, the one that comes first in the octets; DENIAL_NO_SINGLE_SOA; DENIAL_UNEQUAL_TTLS;
+ * DENIAL_LONG_OWNER; DENIAL_COLLISION; DENIAL_SHORT_BUFFER. DENIAL_OUT_OF_MEMORY may replace the last five,
+ * and DENIAL_CHAIN_MADE. A call with a buffer of length 0 hashes all names too.
  */
 uint32_t denial_nsec3_chain(const uint8_t *apex, size_t apex_length,
                             uint16_t rclass, bool assume_dnskey, bool occlude_below_dname,
@@ -471,28 +459,28 @@ uint32_t denial_nsec3_chain(const uint8_t *apex, size_t apex_length,
                             uint8_t *chain, size_t chain_length,
                             size_t *count);
 
-/* How many octets a name has at most (RFC 1035, section 2.3.4). */
+/* The greatest number of octets of a name (RFC 1035, section 2.3.4). */
 #define DENIAL_NAME_ROOM 255
 
 /*
- * Which two names of the NSEC3 chain of a zone hash alike, so that denial_nsec3_chain has no chain and
- * answers DENIAL_COLLISION. Of the names of the chain, which are its owners and the empty non-terminals
- * above them, it is the first in canonical order that has the hash of one before it, and the first that has
- * this hash. Parameters are those of denial_nsec3_chain, but for these:
+ * Finds two names of the NSEC3 chain of a zone that have the same hash, so that denial_nsec3_chain returns
+ * DENIAL_COLLISION. The names of the chain are its owners and the empty non-terminals above them. `later` is the
+ * first one in canonical order that has the hash of a name before it. `earlier` is the first one with that hash.
+ * Parameters are those of denial_nsec3_chain, except for these:
  *
  *   earlier, later
- *                a buffer of DENIAL_NAME_ROOM octets for each of the two names; `earlier` comes first in
- *                canonical order (RFC 4034, section 6.1). A name is written to the beginning, as it stands
- *                in a message without compression and in lower case; what follows it stays. Its last octet
- *                is the 0 of the root: denial_name_length gives its length. Either may be null.
+ *                a buffer of DENIAL_NAME_ROOM octets for each of the two names. A name is written to its
+ *                beginning, as in a message without compression and in lower case; the octets after it do not
+ *                change. Its last octet is the 0 of the root: denial_name_length returns its length. Either
+ *                buffer may be null.
  *
- * Whether DNSKEY is assumed tells nothing of names, and is not asked. Answers DENIAL_COLLISION with the
- * names, or DENIAL_NO_COLLISION, or a fault, of which the first that stands is told in this order:
- * DENIAL_BAD_APEX; DENIAL_LONG_SALT; DENIAL_BAD_RECORDS or DENIAL_OTHER_CLASS, whichever comes first in the
- * octets. SOA records, TTLs and the length of hashed owners are not looked at. DENIAL_OUT_OF_MEMORY may come
- * in place of the last two and of an answer. Without names the buffers stay as they were.
+ * There is no assume_dnskey, which does not change the names. Returns DENIAL_COLLISION with the names, or
+ * DENIAL_NO_COLLISION, or a fault. The faults, in the order in which they are reported: DENIAL_BAD_APEX;
+ * DENIAL_LONG_SALT; DENIAL_BAD_RECORDS or DENIAL_OTHER_CLASS, the one that comes first in the octets. SOA
+ * records, TTLs and the length of hashed owners are not checked. DENIAL_OUT_OF_MEMORY may replace
+ * DENIAL_COLLISION and DENIAL_NO_COLLISION. The buffers change only if names are returned.
  *
- * Takes memory as denial_judge_nsec does: 48 octets and more for each record, and more for each name and its
+ * Allocates memory as denial_judge_nsec does: 48 octets and more for each record, and more for each name and its
  * hash.
  */
 uint32_t denial_nsec3_collision(const uint8_t *apex, size_t apex_length,
@@ -501,7 +489,7 @@ uint32_t denial_nsec3_collision(const uint8_t *apex, size_t apex_length,
                                 const uint8_t *records, size_t records_length,
                                 uint8_t *earlier, uint8_t *later);
 
-/* How many octets a name has, from the octet at `name` to the 0 of the root. */
+/* Returns the number of octets of a name, from the octet at `name` to the 0 of the root. */
 static inline size_t denial_name_length(const uint8_t *name)
 {
     size_t at = 0;
@@ -512,9 +500,9 @@ static inline size_t denial_name_length(const uint8_t *name)
 }
 
 /*
- * Hands the records of a chain, as denial_nsec_chain or denial_nsec3_chain wrote them, to a function one after another, until
- * that answers something other than 0; gives what it answered last, and 0 where there are no records.
- * `context` is handed on.
+ * Calls a function with each record of a chain that denial_nsec_chain or denial_nsec3_chain wrote, until it
+ * returns something other than 0. Returns what the function returned last, or 0 if there are no records.
+ * `context` is passed to the function.
  */
 static inline int denial_each_record(const uint8_t *chain, size_t length,
                                      int (*emit)(void *context, const uint8_t *record, size_t length),
@@ -537,9 +525,9 @@ static inline int denial_each_record(const uint8_t *chain, size_t length,
 }
 
 /*
- * What the library exports takes no null pointer. In C and C++ the calls above go through the functions
- * below, which hand it a number or octets of their own in the place of one: so octets of length 0 may be
- * null, and so may `labels`, `count`, `earlier` and `later`, where nothing is written then.
+ * The library itself accepts no null pointer. In C and C++ the calls above go through the functions below. They
+ * replace a null pointer by a number or octets of their own. So octets of length 0 may be null, and so may
+ * `labels`, `count`, `earlier` and `later`; nothing is written there then.
  */
 static inline const uint8_t *denial_octets(const uint8_t *octets)
 {
