@@ -1,7 +1,7 @@
 -- What the records of a chain that were read answer to a question.
 use Rattle.std.specs.Prelude.{◌≡◌, ◌⊎◌, ℕ, List, [], ◌∷◌, Option, Some, None, Result, Ok, Err}
 use Rattle.domain_nsec3.specs.{View.HasherAnswer, Chain.{HashedLink, ParamRecord}}
-use Rattle.domain_checker.specs.HashedVerdict.{hashed_records, HashedRecords, links_with}
+use Rattle.domain_checker.specs.{HashedIndex.indexed_by, HashedVerdict.{HashedRecords, links_with}}
 use Rattle.judge_program.specs.declared.{nsec3_told.Inquiry.Inquiry, command.Nsec3Options.Nsec3Options}
 use Rattle.domain_hasher.specs.declared.error.Nsec3HashError.{Nsec3HashError, TheVariants.Hasher}
 use Rattle.domain_groups.specs.declared.error.SigningError.{SigningError, TheVariants.Nsec3HashingError}
@@ -16,7 +16,7 @@ use Rattle.denial_program.specs.declared.fault.DenialFault.{DenialFault, TheVari
 -- the records as they are read, with the hasher's answers
 abbrev pub records_of : {H : Type 0} → (H → HasherAnswer) → Inquiry H → HashedRecords
 records_of answer asked =
-    hashed_records asked.question.now.apex (λ n. n) (answer asked.hasher.now) asked.chain.now
+    indexed_by (answer asked.hasher.now) asked.index.now
 
 -- ---- What the records of a chain that were read answer to a question.
 

@@ -13,6 +13,7 @@ use crate::told::{Parts, write_below};
 use denial_program::{DenialFault, Question, ZoneName, chain_of, fault_of, records_among};
 use domain_answer::{Answer, judge_nsec};
 use domain_borrowed::{BorrowedRecord, ReadNsec};
+use domain_checker::Nsec3Index;
 use domain_hasher::Nsec3Hasher;
 use std::alloc::Global;
 use std::io;
@@ -77,11 +78,14 @@ fn judge_nsec3s<'a, W: Write, H: Nsec3Hasher>(
         (IsNotNsec3Judged (H.answer hasher.now) records.entry.items question.now asked)) }
     ensures untouched { IfErr result (λ e. IsBeforeOutput e → output.new ≡ output.old) }
 {
-    let chain = chain_of(alloc, &question.apex, records)?;
+    let made = chain_of(alloc, &question.apex, records)?;
+    let chain = &made;
+    let index = Nsec3Index::new(alloc, &question.apex, chain)?;
     let inquiry = Inquiry {
         alloc,
         question,
-        chain: &chain,
+        nsec3param: &chain.nsec3param,
+        index: &index,
         hasher,
     };
     let answer = inquiry.answer(asked)?;

@@ -17,12 +17,11 @@ use crate::role::Role;
 use crate::shown::Shown;
 use crate::told::{Listed, Part, Parts};
 use denial_program::{DenialFault, Question, ZoneName};
-use domain_answer::{Answer, judge_nsec3, judge_nsec3_expansion};
+use domain_answer::{Answer, judge_nsec3_index, judge_nsec3_index_expansion};
 use domain_base::{MAX_NAME, ParsedName, ToName};
-use domain_borrowed::ReadNsec3;
-use domain_checker::{Nsec3Encloser, Nsec3Found, find_nsec3, find_nsec3_encloser};
+use domain_borrowed::{ReadNsec3, ReadNsec3param};
+use domain_checker::{Nsec3Encloser, Nsec3Found, Nsec3Index};
 use domain_hasher::{Nsec3HashError, Nsec3Hasher};
-use domain_nsec3::Nsec3Records;
 use std::alloc::Global;
 
 /// What NSEC3 records say of the closest encloser of a name.
@@ -30,13 +29,15 @@ type Encloser<'r, 'a> = Nsec3Encloser<'r, &'a [u8], ParsedName<'a>>;
 
 /// A question to NSEC3 records, with the records and the hasher.
 #[derive(Clone, Copy)]
-pub struct Inquiry<'r, 'a, H: Nsec3Hasher> {
+pub struct Inquiry<'i, 'r, 'a, H: Nsec3Hasher> {
     /// The allocator.
     pub alloc: Global,
     /// The question.
     pub question: &'r Question,
-    /// The records, with the NSEC3PARAM record.
-    pub chain: &'r Nsec3Records<ParsedName<'a>, &'a [u8]>,
+    /// The NSEC3PARAM record.
+    pub nsec3param: &'r ReadNsec3param<'a>,
+    /// The index of the records.
+    pub index: &'i Nsec3Index<'r, &'a [u8], ParsedName<'a>>,
     /// The hasher.
     pub hasher: &'r H,
 }
@@ -102,7 +103,7 @@ fn closer_part<'r, 'a>(
     cover_part(Role::NextCloser(name.last_labels(labels)), encloser.cover)
 }
 
-impl<'r, 'a, H: Nsec3Hasher> Inquiry<'r, 'a, H> {
+impl<'i, 'r, 'a, H: Nsec3Hasher> Inquiry<'i, 'r, 'a, H> {
     /// Returns the answer.
     ///
     /// # Errors
@@ -115,13 +116,13 @@ impl<'r, 'a, H: Nsec3Hasher> Inquiry<'r, 'a, H> {
         ensures err { IfErr result (IsRefusedWith (IsRefusalAsked asked.labels
             (records_of H.answer self.now) self.now.question.now asked.limit)) }
     {
-        let (alloc, chain, hasher) = (self.alloc, self.chain, self.hasher);
-        let Question { apex, name, rtype } = self.question;
+        let (alloc, index, hasher) = (self.alloc, self.index, self.hasher);
+        let Question { name, rtype, .. } = self.question;
         let Nsec3Options { labels, limit } = asked;
         let Some(labels) = labels else {
-            return Ok(judge_nsec3(alloc, apex, chain, name, *rtype, limit, hasher)?);
+            return Ok(judge_nsec3_index(alloc, index, name, *rtype, limit, hasher)?);
         };
-        Ok(judge_nsec3_expansion(alloc, apex, chain, name, labels as usize, limit, hasher)?)
+        Ok(judge_nsec3_index_expansion(alloc, index, name, labels as usize, limit, hasher)?)
     }
 
     /// Returns what the records say of a name, or None if the hasher fails for it.
@@ -134,13 +135,7 @@ impl<'r, 'a, H: Nsec3Hasher> Inquiry<'r, 'a, H> {
             ≡ nsec3_told (records_of H.answer self.now) role.entry name.now) }
         ensures err { IfErr result (λ e. e ≡ Memory) }
     {
-        match find_nsec3(
-            self.alloc,
-            &self.question.apex,
-            self.chain,
-            name,
-            self.hasher,
-        ) {
+        match self.index.find_name(self.alloc, name, self.hasher) {
             Ok(Nsec3Found::Match(nsec3)) => Ok(Some(Part {
                 role,
                 matches: true,
@@ -169,19 +164,19 @@ impl<'r, 'a, H: Nsec3Hasher> Inquiry<'r, 'a, H> {
     /// Returns what the records say of the names that a whole answer rests on.
     fn find_whole(&self, answer: Answer) -> Result<Parts<'r, 'a>, DenialFault>
         ensures ok { IfOk result (λ parts. AreWhole
-            (as_param_record (λ n. n) self.now.chain.now.nsec3param) (records_of H.answer self.now)
+            (as_param_record (λ n. n) self.now.nsec3param.now) (records_of H.answer self.now)
             self.now.question.now.name answer (Some (tellings_of parts))) }
         ensures err { IfErr result (IsRefusedWith
             (IsFirstRefusal (records_of H.answer self.now) self.now.question.now.name)) }
     {
-        let Question { apex, name, .. } = self.question;
-        let found = find_nsec3_encloser(self.alloc, apex, self.chain, name, self.hasher)?;
+        let name = &self.question.name;
+        let found = self.index.find_encloser(self.alloc, name, self.hasher)?;
         let wildcard = self.find_wildcard(answer)?;
         Ok(Parts {
             matched: encloser_part(name, &found),
             closer: closer_part(name, answer, &found),
             wildcard,
-            param: Some(&self.chain.nsec3param),
+            param: Some(self.nsec3param),
         })
     }
 
@@ -189,7 +184,7 @@ impl<'r, 'a, H: Nsec3Hasher> Inquiry<'r, 'a, H> {
     /// `labels`.
     fn find_closer(&self, labels: u8) -> Result<Parts<'r, 'a>, DenialFault>
         ensures ok { IfOk result (λ parts. tellings_of parts ≡ expansion_tellings
-            (as_param_record (λ n. n) self.now.chain.now.nsec3param) (records_of H.answer self.now)
+            (as_param_record (λ n. n) self.now.nsec3param.now) (records_of H.answer self.now)
             self.now.question.now.name labels) }
         ensures err { IfErr result (λ e. e ≡ Memory) }
     {
@@ -201,7 +196,7 @@ impl<'r, 'a, H: Nsec3Hasher> Inquiry<'r, 'a, H> {
             matched: None,
             closer,
             wildcard: None,
-            param: Some(&self.chain.nsec3param),
+            param: Some(self.nsec3param),
         })
     }
 
@@ -219,7 +214,7 @@ impl<'r, 'a, H: Nsec3Hasher> Inquiry<'r, 'a, H> {
         answer: Answer,
     ) -> Result<Option<Parts<'r, 'a>>, DenialFault>
         ensures ok { IfOk result (λ parts. AreNsec3Told (rests_on_records answer) shown labels
-            (as_param_record (λ n. n) self.now.chain.now.nsec3param) (records_of H.answer self.now)
+            (as_param_record (λ n. n) self.now.nsec3param.now) (records_of H.answer self.now)
             self.now.question.now.name answer (option_map tellings_of parts)) }
         ensures err { IfErr result (IsRefusedWith (IsRefusalBelow labels
             (records_of H.answer self.now) self.now.question.now.name)) }

@@ -12,14 +12,14 @@ told : (g : Over) (c : After-write_answer g)
 told g c = record {
   answer = c.in_ok-answer.answer;
   judged = record {
-    param = as_param_record (λ n. n) c.in_ok-chain.chain.nsec3param;
-    single = c.in_ok-chain.ensures.param;
-    links = hashed_links_of (λ n. n) c.in_ok-chain.chain.nsec3s.items;
-    are = c.in_ok-chain.ensures.nsec3s;
-    is = c.in_ok-answer.ensures.ok;
+    param = as_param_record (λ n. n) c.in_ok-made.made.nsec3param;
+    single = c.in_ok-made.ensures.param;
+    links = hashed_links_of (λ n. n) c.in_ok-made.made.nsec3s.items;
+    are = c.in_ok-made.ensures.nsec3s;
+    is = rw c.in_ok-index.ensures at c.in_ok-answer.ensures.ok;
   };
   told = option_map tellings_of c.in_ok-parts.parts;
-  are = c.in_ok-parts.ensures.ok;
+  are = rw c.in_ok-index.ensures at c.in_ok-parts.ensures.ok;
   is = refl;
 }
 
