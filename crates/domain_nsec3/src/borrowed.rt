@@ -120,7 +120,7 @@ pub(crate) fn lend_record<'a, O: Octets>(
         params.iterations(),
         salt.with_octets(salt.as_slice()),
         OwnerHash::from_octets_unchecked(next),
-        lend_types(&chain.types, hashed.place),
+        lend_types(&chain.types, hashed.place as usize),
     );
     BorrowedNsec3 {
         owner,

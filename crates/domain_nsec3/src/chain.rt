@@ -14,7 +14,7 @@ ghost use Rattle.domain_nsec3.specs.View.{config_of, hash_by, parameters_of};
 ghost use Rattle.domain_nsec3.specs.declared.hash.Hashed.{Hashed};
 
 use crate::GenerateNsec3Config;
-use crate::hash::{Hashed, hash_into};
+use crate::hash::{Hashed, MAX_NAMES, hash_into};
 use domain_base::{ParsedName, ToName};
 use domain_bitmap::RtypeBitmaps;
 use domain_chain_rdata::Nsec3param;
@@ -137,7 +137,8 @@ fn without_collision(
 }
 
 /// Returns a chain over these names, the first of which own records and have these types. Hashes
-/// the names in the order of the list, and then sorts the hashes.
+/// the names in the order of the list, and then sorts the hashes. More than `MAX_NAMES` names count
+/// as out of memory.
 fn hash_chain<S: Sorter, H: Nsec3Hasher, O: Octets>(
     alloc: Global,
     hasher: &H,
@@ -153,6 +154,9 @@ fn hash_chain<S: Sorter, H: Nsec3Hasher, O: Octets>(
     ensures fault { IfErr result (IsHashingFault apex.now
         (hash_by (H.answer hasher.now) (parameters_of params.now)) names.entry.items) }
 {
+    if names.len() > MAX_NAMES {
+        return Err(Nsec3HashError::OutOfMemory);
+    }
     let room = Vec::with_capacity(alloc, names.len())?;
     let mut hashed = hash_into(alloc, hasher, params, apex, names.as_slice(), room)?;
     drop(names);

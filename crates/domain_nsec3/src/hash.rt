@@ -94,11 +94,15 @@ impl NameHash {
     }
 }
 
-/// A hashed name of a chain: its hash, and its place among the names as they were hashed.
+/// The greatest number of names in a chain: a place takes four octets.
+pub(crate) const MAX_NAMES: usize = 0xffff_ffff;
+
+/// A hashed name of a chain: its hash, and its place among the names as they were hashed. It takes
+/// 44 octets.
 #[derive(Drop)]
 pub(crate) struct Hashed {
     pub(crate) hash: NameHash,
-    pub(crate) place: usize,
+    pub(crate) place: u32,
 }
 
 /// Checks that octets can be used as a hash below an apex. Otherwise returns the first reason why
@@ -262,6 +266,7 @@ fn place_hash(apex: &ParsedName<'_>, hash: &[u8], place: usize) -> Option<Hashed
 {
     check_hash(apex, hash).ok()?;
     let hash = NameHash::new(hash);
+    let place = u32::try_from(place).ok()?;
     Some(Hashed { hash, place })
 }
 
@@ -366,6 +371,7 @@ pub(crate) fn hash_into<H: Nsec3Hasher, O: Octets>(
     requires empty { hashed.items ≡ [] }
     requires none { vec_len hashed ≡ 0 }
     requires room { length names.now ≤ vec_capacity hashed }
+    requires few { length names.now ≤ 4294967295 }
     ensures ok { IfOk result (λ hashed. AreHashesOf apex.now
         (hash_by (H.answer hasher.now) (parameters_of params.now)) names.now hashed.items) }
     ensures err { IfErr result (λ e. (e ≡ hash_error.OutOfMemory)
@@ -377,6 +383,7 @@ pub(crate) fn hash_into<H: Nsec3Hasher, O: Octets>(
     for place in hashed.len()..names.len() {
         let octets = hash_checked(alloc, hasher, params, apex, &names[place])?;
         let hash = NameHash::new(octets.as_slice());
+        let place = place as u32;
         hashed.push_reserved(Hashed { hash, place });
     }
     Ok(hashed)

@@ -1,8 +1,9 @@
 //! Sorting of records in canonical order.
 //!
-//! Neighbours of one owner are a run. Runs are sorted by keys of their owners, and the runs of an
-//! owner by their records. This gives the order of the records' places. Keys and runs are hints: no
-//! clause is about them. The order of the places is checked before a record is moved.
+//! Neighbours of one owner are a run. Runs are sorted by keys of their owners, and runs with equal
+//! keys by keys of what their owners do not share. The records of an owner are sorted last. This
+//! gives the order of the records' places. Keys and runs are hints: no clause is about them. The
+//! order of the places is checked before a record is moved.
 ghost use Rattle.std.specs.Prelude.{◌≡◌, ◌<◌, ◌≤◌, length, take, slice_index, slice_index_or, Bool, true, false, IsTrue, IfOk, OnOk, OnErr};
 ghost use Rattle.std.specs.{declared.cmp.Ordering.Ordering, Ordering.is_eq, Cmp.IsTotalOrder};
 ghost use Rattle.std.specs.List.Sorted.{IsPermutation, IsSorted, IsStable, IsStrictlySortedBy};
@@ -39,9 +40,11 @@ fn with_digit(key: u128, digit: u8) -> u128 {
     key >> 6 | u128::from(digit) << 122
 }
 
-/// Puts the digits of a label, with a 0 at its end, before the digits of a key.
+/// Puts the digits of a label, with a 0 at its end, before the digits of a key. A key has 21
+/// digits, so later octets of the label do not count.
 fn with_label(key: u128, label: &[u8]) -> u128 {
-    label.iter().rev().fold(with_digit(key, 0), |key, octet| {
+    let octets = label.get(..21).unwrap_or(label);
+    octets.iter().rev().fold(with_digit(key, 0), |key, octet| {
         with_digit(key, DIGITS[usize::from(*octet)])
     })
 }
@@ -150,6 +153,67 @@ fn give_keys<N: ToName, D>(records: &[Record<N, D>], first: &Record<N, D>, runs:
     for run in runs.iter_mut() {
         run.key = owner_key(item_at(records, run.start, first).owner(), shared);
     }
+}
+
+/// Returns the label below the last `shared` labels of a name. It is empty if there is none.
+fn label_below<N: ToName>(name: &N, shared: usize) -> &[u8] {
+    let below = name.count_labels().saturating_sub(shared);
+    name.labels().take(below).last().unwrap_or(&[])
+}
+
+/// Returns the octets that both labels begin with.
+fn common_start<'a>(label: &'a [u8], other: &[u8]) -> &'a [u8] {
+    let same = label.iter().zip(other).take_while(|(a, b)| a == b).count();
+    label.get(..same).unwrap_or(label)
+}
+
+/// Returns how many octets the labels below the last `shared` labels of all owners begin with.
+fn shared_octets<N: ToName, D>(
+    records: &[Record<N, D>],
+    first: &Record<N, D>,
+    runs: &[Run],
+    shared: usize,
+) -> usize {
+    let mut start = label_below(first.owner(), shared);
+    for run in runs {
+        let label = label_below(item_at(records, run.start, first).owner(), shared);
+        if !label.starts_with(start) {
+            start = common_start(start, label);
+        }
+    }
+    start.len()
+}
+
+/// Returns a key like that of `owner_key`, of a name without the first `octets` octets of the label
+/// below its last `shared` labels. Names that share these octets too have keys that do not descend.
+fn later_key<N: ToName>(name: &N, shared: usize, octets: usize) -> u128 {
+    let below = name.count_labels().saturating_sub(shared);
+    let labels = name.labels().take(below.saturating_sub(1));
+    let label = label_below(name, shared);
+    with_label(labels.fold(0, with_label), label.get(octets..).unwrap_or(label))
+}
+
+/// Sorts runs whose owners have equal keys: by keys of what the owners do not share, and then by
+/// the records that the runs begin with. Leaves the runs of one owner as they are.
+fn sort_ties<N: ToName, D: RecordData + CanonicalOrd>(
+    records: &[Record<N, D>],
+    first: &Record<N, D>,
+    ties: &mut [Run],
+) {
+    if count_of_owner(records, first, ties) == ties.len() {
+        return;
+    }
+    let among = item_at(records, ties[0].start, first);
+    let shared = shared_labels(records, among, ties);
+    let octets = shared_octets(records, among, ties, shared);
+    for run in ties.iter_mut() {
+        run.key = later_key(item_at(records, run.start, first).owner(), shared, octets);
+    }
+    ties.sort_unstable_by(|a, b| {
+        a.key.cmp(&b.key).then_with(|| {
+            item_at(records, a.start, first).canonical_cmp(item_at(records, b.start, first))
+        })
+    });
 }
 
 /// Compares the records at two places. Compares the places if the records are equal.
@@ -318,11 +382,10 @@ fn likely_places<N: ToName, D: RecordData + CanonicalOrd, S: Sorter>(
 {
     let mut runs = runs_of(alloc, records)?;
     give_keys(records, first, &mut runs);
-    S::sort_by(&mut runs, |a, b| {
-        a.key.cmp(&b.key).then_with(|| {
-            item_at(records, a.start, first).canonical_cmp(item_at(records, b.start, first))
-        })
-    })?;
+    S::sort_by(&mut runs, |a, b| a.key.cmp(&b.key))?;
+    for ties in runs.chunk_by_mut(|a, b| a.key == b.key) {
+        sort_ties(records, first, ties);
+    }
     places_of(alloc, records, first, &runs)
 }
 
