@@ -12,7 +12,7 @@ ghost use Rattle.domain_records.specs.Order.{owner_cmp, rest_cmp, AreRanks, IsAr
 ghost use Rattle.domain_records.specs.Order.{AreAscending, AreDistinct, IsSortOf, IsUnion};
 ghost use Rattle.domain_records.specs.Places.{AreKnown, IsKnownSort};
 
-use domain_base::{CanonicalOrd, ToName};
+use domain_base::{CanonicalOrd, ParsedName, ToName};
 use domain_groups::Sorter;
 use domain_octets::OutOfMemory;
 use domain_record::{Record, RecordData};
@@ -133,18 +133,32 @@ fn runs_of<N: ToName, D: RecordData>(
     Ok(runs)
 }
 
+/// Returns the end of a name that has the last `count` labels, or the name if it has fewer.
+fn last_labels(name: ParsedName<'_>, count: usize) -> ParsedName<'_> {
+    let mut end = name;
+    for _label in count..end.count_labels() {
+        let Some((_, above)) = end.split_first() else {
+            return end;
+        };
+        end = above;
+    }
+    end
+}
+
 /// Returns how many labels, counted from the root, the owners of all runs share.
 fn shared_labels<N: ToName, D>(
     records: &[Record<N, D>],
     first: &Record<N, D>,
     runs: &[Run],
 ) -> usize {
-    let mut shared = first.owner().count_labels();
+    let mut end = first.owner().as_parsed();
     for run in runs {
         let owner = item_at(records, run.start, first).owner();
-        shared = shared.min(first.owner().common_labels(owner));
+        if !owner.ends_with(&end) {
+            end = last_labels(end, end.common_labels(owner));
+        }
     }
-    shared
+    end.count_labels()
 }
 
 /// Gives each run the key of its owner.
