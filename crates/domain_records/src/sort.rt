@@ -204,7 +204,10 @@ fn later_key<N: ToName>(name: &N, shared: usize, octets: usize) -> u128 {
     let below = name.count_labels().saturating_sub(shared);
     let labels = name.labels().take(below.saturating_sub(1));
     let label = label_below(name, shared);
-    with_label(labels.fold(0, with_label), label.get(octets..).unwrap_or(label))
+    with_label(
+        labels.fold(0, with_label),
+        label.get(octets..).unwrap_or(label),
+    )
 }
 
 /// Sorts runs whose owners have equal keys: by keys of what the owners do not share, and then by
