@@ -155,7 +155,8 @@ fn shared_labels<N: ToName, D>(
     for run in runs {
         let owner = item_at(records, run.start, first).owner();
         if !owner.ends_with(&end) {
-            end = last_labels(end, end.common_labels(owner));
+            let count = end.common_labels(owner);
+            end = last_labels(end, count);
         }
     }
     end.count_labels()
