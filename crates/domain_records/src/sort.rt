@@ -234,6 +234,29 @@ fn sort_ties<N: ToName, D: RecordData + CanonicalOrd>(
     });
 }
 
+/// Returns the key of a run, or None past the last.
+fn key_at(runs: &[Run], at: usize) -> Option<u128> {
+    runs.get(at).map(|run| run.key)
+}
+
+/// Sorts the runs with equal keys, in runs that are sorted by keys.
+fn sort_all_ties<N: ToName, D: RecordData + CanonicalOrd>(
+    records: &[Record<N, D>],
+    first: &Record<N, D>,
+    runs: &mut [Run],
+) {
+    let mut start = 0;
+    for last in 0..runs.len() {
+        let end = last + 1;
+        if key_at(runs, end) != key_at(runs, start) {
+            if let Some(ties) = runs.get_mut(start..end) {
+                sort_ties(records, first, ties);
+            }
+            start = end;
+        }
+    }
+}
+
 /// Compares the records at two places. Compares the places if the records are equal.
 #[tactic(auto, unfolding(crate::specs::Order::compared_places))]
 fn compare_places<N: ToName, D: RecordData + CanonicalOrd>(
@@ -401,9 +424,7 @@ fn likely_places<N: ToName, D: RecordData + CanonicalOrd, S: Sorter>(
     let mut runs = runs_of(alloc, records)?;
     give_keys(records, first, &mut runs);
     S::sort_by(&mut runs, |a, b| a.key.cmp(&b.key))?;
-    for ties in runs.chunk_by_mut(|a, b| a.key == b.key) {
-        sort_ties(records, first, ties);
-    }
+    sort_all_ties(records, first, &mut runs);
     places_of(alloc, records, first, &runs)
 }
 
