@@ -6,7 +6,7 @@ use Rattle.std.specs.Hash as fed
 use Rattle.std.specs.Hash.FoldHasher as folding
 use Rattle.domain_names.specs.{Laws.{same_name_equiv, same_name_same, same_name_ties}, Name.{canonical_cmp, same_name, wire_of, Name}}
 use Rattle.domain_borrowed.specs.Data.{RawRecord}
-use Rattle.lint_program.specs.Notes.{group_cmp, number_of, numbered, earlier, first_in, group_of, is_group, Group}
+use Rattle.lint_program.specs.Notes.{by_number, group_cmp, number_of, earlier, first_in, group_of, is_group, Group}
 use Rattle.lint_program.specs.Notes.{Found, IsToldOf, Mark, look_of, Deserves, HasMark, IsDeserved}
 use Rattle.lint_program.specs.{Notes.Found.{more, nothing}, declared.{looks.{Look.Look, Reason.Reason}, reading.Place.Place}}
 use Rattle.domain_zone.proofs.WalkLemmas.{all_both, weaker}
@@ -34,7 +34,7 @@ groups_tied g h =
 numbers_tied : (g h : Group) → (number_of g.0 == number_of h.0) && is_group g h ≡ is_group g h
 numbers_tied g h = grind (arith, common_steps, (one_number g.0 h.0))
 
-pub group_tied : (g h : Group) → is_eq (group_cmp (numbered g) (numbered h)) ≡ is_group g h
+pub group_tied : (g h : Group) → is_eq (group_cmp (by_number g) (by_number h)) ≡ is_group g h
 group_tied g h =
     both_eq _ _
     ∙ ap (λ b. b && is_eq (ordering_then (canonical_cmp g.0 h.0) (nat_cmp g.1 h.1))) (unsigned_tied (number_of g.0) (number_of h.0))

@@ -3,7 +3,7 @@ use Rattle.std.specs.Prelude.{◌≡◌, ℕ, ◌-◌, ◌<◌, ◌==◌, Bool, 
 use Rattle.std.specs.{Prelude.{◌&&◌, List, ◌++◌, Option, Some, None, IsSome, MatchOption, option_map}, List.{find, fold, list_any}, BTreeMap.BTreeMap}
 use Rattle.std.specs.{Ordering.{nat_cmp, ordering_then}, declared.cmp.Ordering.Ordering}
 use Rattle.domain_octets.specs.Octets.{Octets}
-use Rattle.domain_names.specs.{Wire.{IsWire, wire_of}, Name.{is_at_or_below, lowered, same_name, Name, canonical_cmp}}
+use Rattle.domain_names.specs.{Wire.IsWire, Name.{is_at_or_below, lowered, same_name, wire_of, Name, canonical_cmp}}
 use Rattle.lint_program.specs.declared.odd.Shape.{Shape, TheVariants.{OneName, Texts, LongAddress, Service, Certificate, Issuers, Whatever}}
 use Rattle.lint_program.specs.declared.looks.Reason.{Reason, TheVariants.{NoSoa, SecondSoa, StraySoa, OtherClass, OtherTtl, Outside, BesideAlias, OddData}}
 use Rattle.lint_program.specs.declared.{looks.{Reason.TheVariants.Parameters, Look.Look, Placed.Placed}, notes.Note.Note}
@@ -248,8 +248,8 @@ number_of name =
     folding.finish (fold folding.write folding.initial (fed.slice fed.u8 (wire_of (lowered name))))
 
 -- a group after the number of its name
-abbrev pub numbered : Group → ℕ × Group
-numbered g = (number_of g.0, g)
+abbrev pub by_number : Group → ℕ × Group
+by_number g = (number_of g.0, g)
 
 -- the order of numbered groups in the map
 abbrev pub group_cmp : ℕ × Group → ℕ × Group → Ordering
@@ -260,5 +260,5 @@ group_cmp g h =
 -- the map has the first of these records for each group
 abbrev pub AreFirsts : Look → Name → List RawRecord → BTreeMap (ℕ × Group) Placed → Type 0
 AreFirsts l a before firsts =
-    (g : Group) → option_map (λ p. p.borrowed.now) (tree.get group_cmp firsts (numbered g))
+    (g : Group) → option_map (λ p. p.borrowed.now) (tree.get group_cmp firsts (by_number g))
     ≡ first_in l a before g

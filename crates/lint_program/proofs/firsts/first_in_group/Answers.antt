@@ -1,6 +1,6 @@
 use Rattle.std.proofs.{Common.arith, lemmas.{Grind.common_steps, List.Folds.find-append}}
 use Rattle.domain_octets.proofs.StdLemmas.{or_none}
-use Rattle.lint_program.{specs.Notes.numbered, proofs.NoteLemmas.{group_tied, same_first}}
+use Rattle.lint_program.{specs.Notes.by_number, proofs.NoteLemmas.{group_tied, same_first}}
 use Rattle.lint_program.proofs.firsts.first_in_group.Goals as goal
 
 pub returns-in-Some : goal.returns-in-Some
@@ -21,6 +21,6 @@ returns c = λ before firsts. (
     same_first,
     (firsts q),
     (firsts c.group_of-group.result),
-    (c.in_ok-insert.ensures.updates.0 (numbered q)),
+    (c.in_ok-insert.ensures.updates.0 (by_number q)),
   ),
 )
