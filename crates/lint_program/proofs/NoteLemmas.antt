@@ -35,6 +35,7 @@ numbers_tied : (g h : Group) → (number_of g.0 == number_of h.0) && is_group g 
 numbers_tied g h = grind (arith, common_steps, (one_number g.0 h.0))
 
 pub group_tied : (g h : Group) → is_eq (group_cmp (by_number g) (by_number h)) ≡ is_group g h
+unfolding by_number
 group_tied g h =
     both_eq _ _
     ∙ ap (λ b. b && is_eq (ordering_then (canonical_cmp g.0 h.0) (nat_cmp g.1 h.1))) (unsigned_tied (number_of g.0) (number_of h.0))

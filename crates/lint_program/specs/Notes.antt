@@ -248,7 +248,7 @@ number_of name =
     folding.finish (fold folding.write folding.initial (fed.slice fed.u8 (wire_of (lowered name))))
 
 -- a group after the number of its name
-abbrev pub by_number : Group → ℕ × Group
+unfoldable pub by_number : Group → ℕ × Group
 by_number g = (number_of g.0, g)
 
 -- the order of numbered groups in the map

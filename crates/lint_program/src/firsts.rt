@@ -1,10 +1,11 @@
 //! The first record of each group.
 ghost use Rattle.std.specs.Prelude.{◌≡◌, List, [], ◌∷◌, ◌++◌, IfOk, option_map};
 ghost use Rattle.domain_borrowed.specs.Data.{RawRecord};
-ghost use Rattle.lint_program.specs.Notes.{number_of, AreFirsts, earlier};
+ghost use Rattle.lint_program.specs.Notes.{by_number, group_of, number_of, AreFirsts, earlier};
 
 use crate::looks::{Group, Look, Placed, group_of};
 use domain_base::{Name, ParsedName};
+use domain_borrowed::BorrowedRecord;
 use std::alloc::AllocError;
 use std::collections::BTreeMap;
 use std::hash::{FoldHasher, Hash, Hasher};
@@ -23,6 +24,19 @@ fn number_of(name: &Name<&[u8]>) -> u64
     hasher.finish()
 }
 
+/// Returns the group of a record, after the number of its name.
+#[tactic(auto, unfolding(crate::specs::Notes::by_number))]
+fn key_of<'z>(
+    look: Look,
+    apex: &'z ParsedName<'_>,
+    borrowed: &'z BorrowedRecord<'_>,
+) -> (u64, Group<'z>)
+    ensures { result ≡ by_number (group_of look apex.now borrowed.now) }
+{
+    let group = group_of(look, apex, borrowed);
+    (number_of(&group.0), group)
+}
+
 /// Returns the first record in the group of a record. If there is none, this record becomes the
 /// first.
 pub fn first_in_group<'z, 'a>(
@@ -37,11 +51,10 @@ pub fn first_in_group<'z, 'a>(
         ≡ earlier look apex.now before placed.entry.borrowed.now)
         × AreFirsts look apex.now (before ++ placed.entry.borrowed.now ∷ []) firsts.new) }
 {
-    let group = group_of(look, apex, placed.borrowed);
-    let numbered = (number_of(&group.0), group);
-    if let Some(first) = firsts.get(&numbered) {
+    let key = key_of(look, apex, placed.borrowed);
+    if let Some(first) = firsts.get(&key) {
         return Ok(Some(*first));
     }
-    firsts.insert(numbered, placed)?;
+    firsts.insert(key, placed)?;
     Ok(None)
 }
