@@ -80,6 +80,29 @@ def of_python(work):
     return f"{wheel.name}: {work.count} calls, {ran[1]} tests, {said}"
 
 
+BARE = """[package]
+name = "bare"
+version = "0.1.0"
+edition = "2021"
+
+[dependencies]
+denial = { path = "../crates/denial", default-features = false }
+
+[profile.release]
+panic = "abort"
+
+[workspace]
+"""
+
+
+def run_bare(cargo, place, flags):
+    """Runs a program without the standard library, over the crate without features."""
+    (place / "bare/src").mkdir(parents=True)
+    (place / "bare/Cargo.toml").write_text(BARE, encoding="ascii")
+    shutil.copy(HERE / "bare.rs", place / "bare/src/main.rs")
+    cargo("run", "--release", folder=place / "bare", **flags)
+
+
 def of_rust(work):
     """Tests the crates outside of the checkout, and returns what was tested."""
     need(cargo="cargo", cc="gcc", pkg_config="pkg-config")
@@ -95,8 +118,9 @@ def of_rust(work):
 
     all_tests, cases = ["test", "--", "--nocapture"], ["--test", "cases", "--", "--nocapture"]
     work.check_count(cargo(*all_tests, **by_variable))
-    for features in ([], ["--features", "alloc"]):
-        cargo("build", "--package", "denial", "--no-default-features", *features, **by_variable)
+    bare = ["build", "--package", "denial", "--no-default-features"]
+    cargo(*bare, "--features", "alloc", **by_variable)
+    run_bare(cargo, place, by_variable)
     cargo("doc", "--no-deps", **by_variable, RUSTDOCFLAGS="-D warnings")
     clippy = "clippy" if shutil.which("cargo-clippy") else "no clippy, which is missing"
     if clippy == "clippy":

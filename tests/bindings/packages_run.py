@@ -12,6 +12,8 @@ PERSONAL = re.compile(
     r"PYTHON\w*|PIP_\w*|VIRTUAL_ENV|CARGO\w*|RUST\w*FLAGS|GO[A-Z0-9]*|CGO_\w*|PKG_CONFIG\w*"
     r"|LD_LIBRARY_PATH|DENIAL_\w*|DEB_\w*|DH_\w*|C?FLAGS"
 )
+# A function of the header.
+FUNCTION = re.compile(r"^(?:static inline )?(?:const )?\w+ \*?denial_(\w+)\(", re.MULTILINE)
 LINES = 25
 
 
@@ -37,6 +39,16 @@ def expect(what, said, wanted):
         raise Failed(f"{what}: {said!r}, not {wanted!r}")
 
 
+def calls_of(header):
+    """Returns the functions of the header, as the table names them.
+
+    `denial_text` of the header stands for `denial_find_text`, and functions that replace a null
+    pointer for those that take none.
+    """
+    names = set(FUNCTION.findall(header)) - {"octets", "find_text"}
+    return sorted(name for name in names if not name.endswith("_or_null"))
+
+
 class Work:
     """A folder for the tests, with the installed library and the table of calls."""
 
@@ -46,8 +58,10 @@ class Work:
         self.run([ROOT / "tools/install", self.prefix])
         values = (ROOT / "crates/worked_chains/stdout").read_text(encoding="utf-8")
         self.cases.write_text(self.run([HERE / "cases"], given=values), encoding="ascii")
-        self.count = len(self.cases.read_text(encoding="ascii").splitlines())
+        calls = [line.split()[0] for line in self.cases.read_text(encoding="ascii").splitlines()]
+        self.count = len(calls)
         header = (self.prefix / "include/denial.h").read_text(encoding="utf-8")
+        expect("calls of the table", sorted(set(calls)), calls_of(header))
         number = int(re.search(r"^#define DENIAL_VERSION (\d+)$", header, re.MULTILINE)[1])
         self.version = f"{number // 10000}.{number // 100 % 100}.{number % 100}"
 

@@ -6,14 +6,26 @@ use std::env;
 use std::path::{Path, PathBuf};
 use std::process::{exit, Command};
 
+/// The variables that change what is found.
+const NAMES: [&str; 5] = [
+    "DENIAL_LIB_DIR",
+    "DENIAL_LINK",
+    "PKG_CONFIG",
+    "PKG_CONFIG_PATH",
+    "PKG_CONFIG_LIBDIR",
+];
+
 /// A folder, and whether its static library is preferred.
 struct Found {
     folder: PathBuf,
     prefers_static: bool,
 }
 
-/// Returns what `pkg-config` knows of the library's folder.
+/// Returns what `pkg-config` knows of the library's folder. It knows that of this machine only.
 fn by_pkg_config() -> Option<PathBuf> {
+    if env::var_os("TARGET") != env::var_os("HOST") {
+        return None;
+    }
     let program = env::var_os("PKG_CONFIG").unwrap_or_else(|| "pkg-config".into());
     let run = Command::new(program)
         .args(["--variable=libdir", "denial"])
@@ -76,12 +88,7 @@ fn kind(found: &Found) -> Result<&'static str, String> {
 
 fn main() {
     println!("cargo:rerun-if-changed=build.rs");
-    for name in [
-        "DENIAL_LIB_DIR",
-        "DENIAL_LINK",
-        "PKG_CONFIG",
-        "PKG_CONFIG_PATH",
-    ] {
+    for name in NAMES {
         println!("cargo:rerun-if-env-changed={name}");
     }
     if env::var_os("DOCS_RS").is_some() {
@@ -91,6 +98,9 @@ fn main() {
     let found = find().ok_or_else(|| nothing.to_string());
     match found.and_then(|found| Ok((kind(&found)?, found.folder))) {
         Ok((kind, folder)) => {
+            let end = if kind == "static" { "a" } else { "so" };
+            let file = folder.join(format!("libdenial.{end}"));
+            println!("cargo:rerun-if-changed={}", file.display());
             println!("cargo:rustc-link-search=native={}", folder.display());
             println!("cargo:rustc-link-lib={kind}=denial");
             println!("cargo:lib_dir={}", folder.display());
