@@ -7,7 +7,7 @@ import re
 HERE = pathlib.Path(__file__).resolve().parent.parent
 SHIPPED = HERE / "dist/x86_64-linux"
 PROGRAMS = ["denial", "denial_judge", "denial_lint"]
-BUILT = re.compile(r"out|\.git|\.dist-.*|__pycache__")
+BUILT = re.compile(r"out|target|\.git|\.dist-.*|__pycache__")
 
 
 @functools.cache

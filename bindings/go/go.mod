@@ -1,3 +1,3 @@
-module denial
+module hidrezsol.example/denial
 
 go 1.19

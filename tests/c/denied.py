@@ -1,5 +1,5 @@
 #!/usr/bin/env python3
-"""Calls the C library from Python, by bindings/python/denial.py, and compares verdicts and answers.
+"""Calls the C library from Python, by bindings/python/denial, and compares verdicts and answers.
 
     denied.py LIBRARY
 
