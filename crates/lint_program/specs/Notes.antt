@@ -107,10 +107,10 @@ fails _ = false
 abbrev pub is_apex_soa : Name → RawRecord → Bool
 is_apex_soa a r = (r.«data».rtype == rtypes.soa) && same_name r.owner a
 
--- records of the type may exist beside a CNAME record (RFC 4034, section 2.5; RFC 2181, section
--- 10.1)
+-- records of the type may exist beside a CNAME record: RRSIG, NSEC, and KEY, whose number is 25
+-- (RFC 4035, section 2.5; RFC 2181, section 10.1)
 abbrev pub stands_beside_alias : ℕ → Bool
-stands_beside_alias t = (t == rtypes.rrsig) || (t == rtypes.nsec)
+stands_beside_alias t = (t == rtypes.rrsig) || ((t == rtypes.nsec) || (t == 25))
 
 -- the key by which records are grouped: a name, and a number
 abbrev pub Group : Type 0

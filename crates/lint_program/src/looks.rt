@@ -8,6 +8,9 @@ use crate::reading::Place;
 use domain_base::{Name, ParsedName, Rtype, ToName};
 use domain_borrowed::BorrowedRecord;
 
+/// The number of the type KEY, which has no constant of its own (RFC 2535, section 3).
+const KEY: u16 = 25;
+
 /// What one pass over the records looks for.
 #[derive(Clone, Copy)]
 pub enum Look {
@@ -89,12 +92,12 @@ pub fn is_apex_soa(apex: &ParsedName<'_>, borrowed: &BorrowedRecord<'_>) -> bool
     borrowed.rtype() == Rtype::SOA && borrowed.owner().name_eq(apex)
 }
 
-/// Returns whether records of the type may exist beside a CNAME record (RFC 4034, section 2.5 and
-/// RFC 2181, section 10.1).
+/// Returns whether records of the type may exist beside a CNAME record: RRSIG, NSEC and KEY (RFC
+/// 4035, section 2.5; RFC 2181, section 10.1).
 fn stands_beside_alias(rtype: Rtype) -> bool
     ensures { result ≡ stands_beside_alias rtype }
 {
-    rtype == Rtype::RRSIG || rtype == Rtype::NSEC
+    rtype == Rtype::RRSIG || rtype == Rtype::NSEC || rtype.to_int() == KEY
 }
 
 /// Returns the group of a record.
