@@ -146,6 +146,19 @@ earlier l a before r = first_in l a before (group_of l a r)
 abbrev pub HasEarlier : Option RawRecord → (RawRecord → Type 0) → Type 0
 HasEarlier first is_such = MatchOption first ⊥ is_such
 
+-- records of one owner are one record: they have the same class, type and data, and a set of
+-- records has no duplicates (RFC 2181, section 5)
+pub record AreDuplicates (r s : RawRecord) : Type 0 where
+  pub class : r.class ≡ s.class
+  pub rtype : r.«data».rtype ≡ s.«data».rtype
+  pub octets : r.«data».octets ≡ s.«data».octets
+
+-- of two records of one owner, neither of which may exist beside a CNAME record, one is CNAME, and
+-- they are not one record (RFC 1034, section 3.6.2)
+pub record AreInConflict (r s : RawRecord) : Type 0 where
+  pub alias : (r.«data».rtype ≡ rtypes.cname) ⊎ (s.«data».rtype ≡ rtypes.cname)
+  pub two : ¬ (AreDuplicates r s)
+
 -- a record deserves a note for a reason, if `first` is the first record before it in its group
 abbrev pub Deserves : Reason → Name → Option RawRecord → RawRecord → Type 0
 Deserves NoSoa a first r = ⊥
@@ -156,8 +169,7 @@ Deserves OtherTtl a first r =
     (r.«data».rtype ≢ rtypes.rrsig) × HasEarlier first (λ f. r.ttl ≢ f.ttl)
 Deserves Outside a first r = is_at_or_below r.owner a ≡ false
 Deserves BesideAlias a first r =
-    (stands_beside_alias r.«data».rtype ≡ false)
-    × HasEarlier first (λ f. (r.«data».rtype ≡ rtypes.cname) ⊎ (f.«data».rtype ≡ rtypes.cname))
+    (stands_beside_alias r.«data».rtype ≡ false) × HasEarlier first (AreInConflict r)
 Deserves OddData a first r = ¬ (IsSuch (shape_of r.«data».rtype) r.«data».octets)
 Deserves Parameters a first r =
     (r.«data».rtype ≡ rtypes.nsec3param) × (has_extras r.«data».octets ≡ true)
