@@ -1,6 +1,6 @@
 -- The notes about the records that were read: one for each record that deserves it, and no other.
 use Rattle.std.specs.Prelude.{◌≡◌, ℕ, ◌-◌, ◌<◌, ◌==◌, Bool, not, ◌||◌, [], ◌∷◌, drop, length, nat_lt, slice_index, if◌then◌else◌, codes, ◌≢◌, ◌⊎◌, true, false}
-use Rattle.std.specs.{Prelude.{◌&&◌, List, ◌++◌, Option, Some, None, IsSome, MatchOption, option_map}, List.{find, fold, list_any}, BTreeMap.BTreeMap}
+use Rattle.std.specs.{Prelude.{◌&&◌, ◌+◌, ◌≤◌, List, ◌++◌, Option, Some, None, IsSome, MatchOption, option_map}, List.{find, fold, list_any}, BTreeMap.BTreeMap}
 use Rattle.std.specs.{Ordering.{nat_cmp, ordering_then}, declared.cmp.Ordering.Ordering}
 use Rattle.domain_octets.specs.Octets.{Octets}
 use Rattle.domain_names.specs.{Wire.{IsWire, wire_of}, Name.{is_at_or_below, lowered, same_name, Name, canonical_cmp}}
@@ -40,6 +40,12 @@ pub record AreTexts (octets : Octets) : Type 0 where
   pub whole : to_come 0 octets ≡ 0
   pub some : 0 < length octets
 
+-- CAA data: an octet of flags, an octet with the length of the tag, which is at least 1, and the
+-- tag, which does not go past the data (RFC 8659, section 4.1)
+pub record HaveTag (octets : Octets) : Type 0 where
+  pub some : 0 < slice_index octets 1
+  pub within : 2 + slice_index octets 1 ≤ length octets
+
 -- the octets have the shape
 abbrev pub IsSuch : Shape → Octets → Type 0
 IsSuch OneName octets = IsWire octets
@@ -47,7 +53,7 @@ IsSuch Texts octets = AreTexts octets
 IsSuch LongAddress octets = length octets ≡ 16
 IsSuch Service octets = (6 < length octets) × IsWire (drop 6 octets)
 IsSuch Certificate octets = 3 < length octets
-IsSuch Issuers octets = 2 < length octets
+IsSuch Issuers octets = HaveTag octets
 IsSuch Whatever octets = Unit {0}
 
 -- NSEC3PARAM data have additional iterations or a salt (RFC 5155, section 4.2): after algorithm and
