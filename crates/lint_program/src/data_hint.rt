@@ -1,10 +1,11 @@
 //! Explains what is wrong with the data of a record.
 
+use crate::date::seconds_of_date;
 use crate::generic::generic_form;
 use crate::hint::quoted;
 use crate::name_trouble::name_trouble;
-use crate::wanted::{BASE16, BASE64, NAME, field_at, fields_of};
-use domain_base::Rtype;
+use crate::wanted::{BASE16, BASE64, NAME, TIME, field_at, fields_of};
+use domain_base::{FromToken, Rtype};
 use std::alloc::{AllocError, Global};
 
 /// The number of the first word of a line's data, counted from 1.
@@ -95,14 +96,30 @@ pub fn told_of_data(
         return Ok((last.saturating_add(FIRST), text));
     };
     let word = data.get(place).copied().unwrap_or("");
+    let text = told_of_field(alloc, rtype, name, form, word)?;
+    Ok((place.saturating_add(FIRST), text))
+}
+
+/// Returns what is wrong with a word that is not the field with this name and this format.
+fn told_of_field(
+    alloc: Global,
+    rtype: Rtype,
+    name: &str,
+    form: &str,
+    word: &str,
+) -> Result<String, AllocError> {
     let said = quoted(alloc, word.as_bytes())?;
+    if form == TIME {
+        if let Some(seconds) = seconds_of_date(word) {
+            return format!(in alloc; "{said} is a date: write the seconds since 1970, {seconds}");
+        }
+    }
     let wanted = if form == NAME {
         name_trouble(word)
     } else {
         form
     };
-    let text = format!(in alloc; "{said} is no {name} ({rtype}): {wanted}")?;
-    Ok((place.saturating_add(FIRST), text))
+    format!(in alloc; "{said} is no {name} ({rtype}): {wanted}")
 }
 
 /// Returns the explanation for data that end too early.
