@@ -1,6 +1,6 @@
 -- The notes about the records that were read: one for each record that deserves it, and no other.
 use Rattle.std.specs.Prelude.{◌≡◌, ℕ, ◌-◌, ◌<◌, ◌==◌, Bool, not, ◌||◌, [], ◌∷◌, drop, length, nat_lt, slice_index, if◌then◌else◌, codes, ◌≢◌, ◌⊎◌, true, false}
-use Rattle.std.specs.{Prelude.{◌&&◌, List, ◌++◌, Option, Some, None, IsSome, MatchOption, option_map}, List.{find, fold, list_any}, BTreeMap.BTreeMap}
+use Rattle.std.specs.{Prelude.{◌&&◌, ◌+◌, ◌≤◌, List, ◌++◌, Option, Some, None, IsSome, MatchOption, option_map}, List.{find, fold, list_any}, BTreeMap.BTreeMap}
 use Rattle.std.specs.{Ordering.{nat_cmp, ordering_then}, declared.cmp.Ordering.Ordering}
 use Rattle.domain_octets.specs.Octets.{Octets}
 use Rattle.domain_names.specs.{Wire.IsWire, Name.{is_at_or_below, lowered, same_name, wire_of, Name, canonical_cmp}}
@@ -40,6 +40,12 @@ pub record AreTexts (octets : Octets) : Type 0 where
   pub whole : to_come 0 octets ≡ 0
   pub some : 0 < length octets
 
+-- CAA data: an octet of flags, an octet with the length of the tag, which is at least 1, and the
+-- tag, which does not go past the data (RFC 8659, section 4.1)
+pub record HaveTag (octets : Octets) : Type 0 where
+  pub some : 0 < slice_index octets 1
+  pub within : 2 + slice_index octets 1 ≤ length octets
+
 -- the octets have the shape
 abbrev pub IsSuch : Shape → Octets → Type 0
 IsSuch OneName octets = IsWire octets
@@ -47,7 +53,7 @@ IsSuch Texts octets = AreTexts octets
 IsSuch LongAddress octets = length octets ≡ 16
 IsSuch Service octets = (6 < length octets) × IsWire (drop 6 octets)
 IsSuch Certificate octets = 3 < length octets
-IsSuch Issuers octets = 2 < length octets
+IsSuch Issuers octets = HaveTag octets
 IsSuch Whatever octets = Unit {0}
 
 -- NSEC3PARAM data have additional iterations or a salt (RFC 5155, section 4.2): after algorithm and
@@ -107,10 +113,10 @@ fails _ = false
 abbrev pub is_apex_soa : Name → RawRecord → Bool
 is_apex_soa a r = (r.«data».rtype == rtypes.soa) && same_name r.owner a
 
--- records of the type may exist beside a CNAME record (RFC 4034, section 2.5; RFC 2181, section
--- 10.1)
+-- records of the type may exist beside a CNAME record: RRSIG, NSEC, and KEY, whose number is 25
+-- (RFC 4035, section 2.5; RFC 2181, section 10.1)
 abbrev pub stands_beside_alias : ℕ → Bool
-stands_beside_alias t = (t == rtypes.rrsig) || (t == rtypes.nsec)
+stands_beside_alias t = (t == rtypes.rrsig) || ((t == rtypes.nsec) || (t == 25))
 
 -- the key by which records are grouped: a name, and a number
 abbrev pub Group : Type 0
@@ -146,6 +152,19 @@ earlier l a before r = first_in l a before (group_of l a r)
 abbrev pub HasEarlier : Option RawRecord → (RawRecord → Type 0) → Type 0
 HasEarlier first is_such = MatchOption first ⊥ is_such
 
+-- records of one owner are one record: they have the same class, type and data, and a set of
+-- records has no duplicates (RFC 2181, section 5)
+pub record AreDuplicates (r s : RawRecord) : Type 0 where
+  pub class : r.class ≡ s.class
+  pub rtype : r.«data».rtype ≡ s.«data».rtype
+  pub octets : r.«data».octets ≡ s.«data».octets
+
+-- of two records of one owner, neither of which may exist beside a CNAME record, one is CNAME, and
+-- they are not one record (RFC 1034, section 3.6.2)
+pub record AreInConflict (r s : RawRecord) : Type 0 where
+  pub alias : (r.«data».rtype ≡ rtypes.cname) ⊎ (s.«data».rtype ≡ rtypes.cname)
+  pub two : ¬ (AreDuplicates r s)
+
 -- a record deserves a note for a reason, if `first` is the first record before it in its group
 abbrev pub Deserves : Reason → Name → Option RawRecord → RawRecord → Type 0
 Deserves NoSoa a first r = ⊥
@@ -156,8 +175,7 @@ Deserves OtherTtl a first r =
     (r.«data».rtype ≢ rtypes.rrsig) × HasEarlier first (λ f. r.ttl ≢ f.ttl)
 Deserves Outside a first r = is_at_or_below r.owner a ≡ false
 Deserves BesideAlias a first r =
-    (stands_beside_alias r.«data».rtype ≡ false)
-    × HasEarlier first (λ f. (r.«data».rtype ≡ rtypes.cname) ⊎ (f.«data».rtype ≡ rtypes.cname))
+    (stands_beside_alias r.«data».rtype ≡ false) × HasEarlier first (AreInConflict r)
 Deserves OddData a first r = ¬ (IsSuch (shape_of r.«data».rtype) r.«data».octets)
 Deserves Parameters a first r =
     (r.«data».rtype ≡ rtypes.nsec3param) × (has_extras r.«data».octets ≡ true)

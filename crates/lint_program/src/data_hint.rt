@@ -1,14 +1,21 @@
 //! Explains what is wrong with the data of a record.
 
+use crate::date::seconds_of_date;
 use crate::generic::generic_form;
 use crate::hint::quoted;
 use crate::name_trouble::name_trouble;
-use crate::wanted::{BASE16, BASE64, NAME, field_at, fields_of};
-use domain_base::Rtype;
+use crate::wanted::{BASE16, BASE64, NAME, TIME, field_at, fields_of};
+use domain_base::{FromToken, Rtype};
 use std::alloc::{AllocError, Global};
 
 /// The number of the first word of a line's data, counted from 1.
 const FIRST: usize = 5;
+
+/// The number of the word with the number of octets, in the generic form.
+const COUNT: usize = 6;
+
+/// The number of the first word with octets, in the generic form.
+const OCTETS: usize = 7;
 
 /// Returns whether all octets of a word are Base 16 digits or, for `BASE64`, Base 64 digits or
 /// padding.
@@ -31,7 +38,7 @@ fn first_other(form: &str, words: &[&str], from: usize) -> Option<usize> {
 }
 
 /// Returns what is wrong with data in the generic form, and the number of the wrong word. That is
-/// `number` if words are missing.
+/// `number` if words are missing. If the octets are wrong, it is their first word.
 fn told_of_generic(
     alloc: Global,
     rtype: Rtype,
@@ -41,28 +48,33 @@ fn told_of_generic(
     let [_mark, count, digits @ ..] = data else {
         return Ok((number, missing_data(alloc, rtype, data)?));
     };
-    let Ok(wanted) = count.parse::<u16>() else {
+    let Ok(wanted) = u16::from_token(count) else {
         let said = quoted(alloc, count.as_bytes())?;
         let text = format!(in alloc; "{said} is no number of octets: from 0 to 65535")?;
-        return Ok((number, text));
+        return Ok((COUNT, text));
     };
     if let Some(place) = first_other(BASE16, data, 2) {
         let said = quoted(alloc, data.get(place).copied().unwrap_or("").as_bytes())?;
-        let text = format!(in alloc; "{said} is no Base 16, in which the octets stand")?;
+        let text = format!(in alloc; "{said} is no Base 16, in which the octets are written")?;
         return Ok((place.saturating_add(FIRST), text));
     }
     let mut found: usize = 0;
     for word in digits {
         found = found.saturating_add(word.len());
     }
-    let text = if found % 2 != 0 {
-        format!(in alloc; "the digits of Base 16 are no whole number of octets")
-    } else if found / 2 != usize::from(wanted) {
-        format!(in alloc; "\\# {wanted} is followed by {} octets", found / 2)
-    } else {
-        format!(in alloc; "these octets are no data of {rtype}")
-    };
-    Ok((FIRST, text?))
+    if found % 2 != 0 {
+        let text = format!(in alloc; "the digits of Base 16 are no whole number of octets")?;
+        return Ok((OCTETS, text));
+    }
+    if found / 2 != usize::from(wanted) {
+        let text = format!(in alloc; "\\# {wanted} is followed by {} octets", found / 2)?;
+        return Ok((COUNT, text));
+    }
+    let wrong = if found == 0 { COUNT } else { OCTETS };
+    Ok((
+        wrong,
+        format!(in alloc; "these octets are no data of {rtype}")?,
+    ))
 }
 
 /// Returns what is wrong with data whose word of this number in the line cannot be read, and the
@@ -95,14 +107,30 @@ pub fn told_of_data(
         return Ok((last.saturating_add(FIRST), text));
     };
     let word = data.get(place).copied().unwrap_or("");
+    let text = told_of_field(alloc, rtype, name, form, word)?;
+    Ok((place.saturating_add(FIRST), text))
+}
+
+/// Returns what is wrong with a word that is not the field with this name and this format.
+fn told_of_field(
+    alloc: Global,
+    rtype: Rtype,
+    name: &str,
+    form: &str,
+    word: &str,
+) -> Result<String, AllocError> {
     let said = quoted(alloc, word.as_bytes())?;
+    if form == TIME {
+        if let Some(seconds) = seconds_of_date(word) {
+            return format!(in alloc; "{said} is a date: write the seconds since 1970, {seconds}");
+        }
+    }
     let wanted = if form == NAME {
         name_trouble(word)
     } else {
         form
     };
-    let text = format!(in alloc; "{said} is no {name} ({rtype}): {wanted}")?;
-    Ok((place.saturating_add(FIRST), text))
+    format!(in alloc; "{said} is no {name} ({rtype}): {wanted}")
 }
 
 /// Returns the explanation for data that end too early.

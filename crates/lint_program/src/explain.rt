@@ -4,10 +4,13 @@ use crate::data_hint::{missing_data, told_of_data};
 use crate::hint::{class_trouble, quoted, strange_trouble, ttl_trouble, type_trouble};
 use crate::name_trouble::name_trouble;
 use crate::refusal::refusal_of;
-use crate::wanted::Part;
+use crate::wanted::{Part, fields_of};
 use denial_program::without_end;
 use std::alloc::{AllocError, Global};
 use std::str;
+
+/// The place of the first word of a line's data, counted from 0.
+const DATA: usize = 4;
 
 /// Returns the number of the wrong word in a line, counted from 1, and what is wrong with it. Pass
 /// the line with its end.
@@ -45,7 +48,8 @@ fn directive_of(words: &[&str]) -> Option<&'static str> {
         .find(|directive| first.eq_ignore_ascii_case(directive))
 }
 
-/// Explains the word that cannot be read as the part of the record at its place.
+/// Explains the word that cannot be read as the part of the record at its place, or a sign of a
+/// zone file at it or before it in the data.
 fn explain_words(
     alloc: Global,
     line: &[u8],
@@ -61,20 +65,44 @@ fn explain_words(
         )?;
         return Ok((1, text));
     }
-    let data = words.get(4..).unwrap_or(&[]);
+    let told = told_of_part(alloc, words, number, part)?;
+    let (from, end) = searched(words, told.0, part);
+    let behind = words.get(from..end).unwrap_or(&[]);
+    let Some((place, trouble)) = strange_trouble(behind) else {
+        return Ok(told);
+    };
+    let word = behind.get(place).copied().unwrap_or("");
+    let said = quoted(alloc, word.as_bytes())?;
+    let number = from.saturating_add(place).saturating_add(1);
+    Ok((number, format!(in alloc; "{said} {trouble}")?))
+}
+
+/// Returns the places of the words that are searched for signs of a zone file: the first, and the
+/// one after the last. `number` is the number of the wrong word. Data without a presentation format
+/// here are searched whole.
+fn searched(words: &[&str], number: usize, part: Part) -> (usize, usize) {
+    match part {
+        Part::Data(rtype) if fields_of(rtype).is_empty() => (DATA, words.len()),
+        Part::Data(_) | Part::Nothing(_) => (DATA, number.min(words.len())),
+        _ => (number.saturating_sub(1), number),
+    }
+}
+
+/// Returns the number of the wrong word, and what is wrong with it. `number` is the number of the
+/// word that cannot be read.
+fn told_of_part(
+    alloc: Global,
+    words: &[&str],
+    number: usize,
+    part: Part,
+) -> Result<(usize, String), AllocError> {
+    let data = words.get(DATA..).unwrap_or(&[]);
     let Some(word) = words.get(number.saturating_sub(1)) else {
         return Ok((number, told_of_missing(alloc, data, part)?));
     };
-    let told = match part {
-        Part::Data(rtype) => told_of_data(alloc, rtype, data, number)?,
-        _ => (number, told_of_word(alloc, words, word, part)?),
-    };
-    match strange_trouble(word) {
-        Some(trouble) => {
-            let said = quoted(alloc, word.as_bytes())?;
-            Ok((told.0, format!(in alloc; "{said} {trouble}")?))
-        }
-        None => Ok(told),
+    match part {
+        Part::Data(rtype) => told_of_data(alloc, rtype, data, number),
+        _ => Ok((number, told_of_word(alloc, words, word, part)?)),
     }
 }
 

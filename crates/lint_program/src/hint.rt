@@ -21,16 +21,45 @@ pub fn quoted(alloc: Global, word: &[u8]) -> Result<String, AllocError> {
     Ok(text)
 }
 
-/// Returns what is wrong with a word that no record has at any place.
-pub fn strange_trouble(word: &str) -> Option<&'static str> {
-    const BRACKET: &str =
-        "has a bracket, and none is read here: write the record on one line, as denial-zone does";
-    match word.as_bytes() {
-        [b'(' | b')', ..] => Some(BRACKET),
-        [.., before, b'(' | b')'] if *before != b'\\' => Some(BRACKET),
-        [b';', ..] => Some("begins a comment: it stands on a line of its own"),
-        _ => None,
+/// What is wrong with a word that has a bracket of a zone file.
+const BRACKET: &str = "has a bracket, which groups lines: write one record a line, without \
+                       comments or brackets, as denial-zone does";
+
+/// What is wrong with a word that has a semicolon of a zone file.
+const COMMENT: &str = "has a semicolon, which begins a comment: write one record a line, without \
+                       comments or brackets, as denial-zone does";
+
+/// Returns what is wrong with a word that has a semicolon or a bracket outside of quotes and not
+/// after a backslash (RFC 1035, section 5.1). `is_quoted` says whether the word begins within
+/// quotes. If nothing is wrong, it then says whether the word ends within them.
+fn sign_trouble(word: &str, is_quoted: &mut bool) -> Option<&'static str> {
+    let mut is_escaped = false;
+    for octet in word.as_bytes() {
+        if is_escaped {
+            is_escaped = false;
+            continue;
+        }
+        match *octet {
+            b'\\' => is_escaped = true,
+            b'"' => *is_quoted = !*is_quoted,
+            b';' if !*is_quoted => return Some(COMMENT),
+            b'(' | b')' if !*is_quoted => return Some(BRACKET),
+            _ => {}
+        }
     }
+    None
+}
+
+/// Returns the place of the first of these words that has such a sign of a zone file, counted from
+/// 0, and what is wrong with it. The first word begins outside of quotes.
+pub fn strange_trouble(words: &[&str]) -> Option<(usize, &'static str)> {
+    let mut is_quoted = false;
+    for (place, word) in words.iter().enumerate() {
+        if let Some(trouble) = sign_trouble(word, &mut is_quoted) {
+            return Some((place, trouble));
+        }
+    }
+    None
 }
 
 /// Returns the number of seconds in a unit of a TTL. Zone files have such units, but records here

@@ -18,6 +18,7 @@
 mod alike;
 mod command;
 mod data_hint;
+mod date;
 mod explain;
 mod fault;
 mod firsts;

@@ -1,12 +1,16 @@
 //! The looks at the records of a zone. A look compares each record with the first before it in its
 //! group, and finds whether it deserves a note.
-ghost use Rattle.std.specs.Prelude.{◌≡◌, IfNone, IfSome, option_map};
+ghost use Rattle.std.specs.Prelude.{◌≡◌, ◌↔◌, IfNone, IfSome, IsTrue, option_map};
 ghost use Rattle.lint_program.specs.Notes.{fails, group_of, is_apex_soa, look_of, stands_beside_alias, Deserves, FindsNothing};
+ghost use Rattle.lint_program.specs.Notes.{AreDuplicates, AreInConflict};
 
 use crate::odd::{has_extras, is_such, shape_of};
 use crate::reading::Place;
 use domain_base::{Name, ParsedName, Rtype, ToName};
 use domain_borrowed::BorrowedRecord;
+
+/// The number of the type KEY, which has no constant of its own (RFC 2535, section 3).
+const KEY: u16 = 25;
 
 /// What one pass over the records looks for.
 #[derive(Clone, Copy)]
@@ -40,7 +44,7 @@ pub enum Reason {
     OtherTtl,
     /// An owner outside the zone.
     Outside,
-    /// A CNAME record beside another record of its owner.
+    /// A CNAME record beside another record of its owner, which is not equal.
     BesideAlias,
     /// Octets that do not encode data of the type.
     OddData,
@@ -89,12 +93,31 @@ pub fn is_apex_soa(apex: &ParsedName<'_>, borrowed: &BorrowedRecord<'_>) -> bool
     borrowed.rtype() == Rtype::SOA && borrowed.owner().name_eq(apex)
 }
 
-/// Returns whether records of the type may exist beside a CNAME record (RFC 4034, section 2.5 and
-/// RFC 2181, section 10.1).
+/// Returns whether records of the type may exist beside a CNAME record: RRSIG, NSEC and KEY (RFC
+/// 4035, section 2.5; RFC 2181, section 10.1).
 fn stands_beside_alias(rtype: Rtype) -> bool
     ensures { result ≡ stands_beside_alias rtype }
 {
-    rtype == Rtype::RRSIG || rtype == Rtype::NSEC
+    rtype == Rtype::RRSIG || rtype == Rtype::NSEC || rtype.to_int() == KEY
+}
+
+/// Returns whether two records of one owner are one record: whether they have the same class, type
+/// and data (RFC 2181, section 5).
+fn are_duplicates(borrowed: &BorrowedRecord<'_>, other: &BorrowedRecord<'_>) -> bool
+    ensures { IsTrue result ↔ AreDuplicates borrowed.now other.now }
+{
+    borrowed.class() == other.class()
+        && borrowed.rtype() == other.rtype()
+        && borrowed.data().octets() == other.data().octets()
+}
+
+/// Returns whether one of two records of one owner is CNAME, and they are not one record (RFC 1034,
+/// section 3.6.2). Pass records that may not exist beside a CNAME record.
+fn are_in_conflict(borrowed: &BorrowedRecord<'_>, other: &BorrowedRecord<'_>) -> bool
+    ensures { IsTrue result ↔ AreInConflict borrowed.now other.now }
+{
+    let is_alias = (borrowed.rtype() == Rtype::CNAME) | (other.rtype() == Rtype::CNAME);
+    is_alias && !are_duplicates(borrowed, other)
 }
 
 /// Returns the group of a record.
@@ -153,11 +176,10 @@ pub fn reason_of(
             ((rtype != Rtype::RRSIG) & (borrowed.ttl() != first.ttl())).then_some(Reason::OtherTtl)
         }
         Look::Outside => (!borrowed.owner().ends_with(apex)).then_some(Reason::Outside),
-        // RFC 1034, section 3.6.2.
         Look::Aliases => {
             let first = first?.borrowed;
-            let is_alias = (rtype == Rtype::CNAME) | (first.rtype() == Rtype::CNAME);
-            (!stands_beside_alias(rtype) & is_alias).then_some(Reason::BesideAlias)
+            let is_beside = !stands_beside_alias(rtype) & are_in_conflict(borrowed, first);
+            is_beside.then_some(Reason::BesideAlias)
         }
         Look::Data => {
             let octets = borrowed.data().octets();

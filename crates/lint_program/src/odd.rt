@@ -1,6 +1,6 @@
 //! Data that records may have but that are seldom intended.
 ghost use Rattle.std.specs.Prelude.{◌≡◌, ◌↔◌, IsTrue};
-ghost use Rattle.lint_program.specs.Notes.{has_extras, shape_of, AreTexts, IsSuch};
+ghost use Rattle.lint_program.specs.Notes.{has_extras, shape_of, AreTexts, HaveTag, IsSuch};
 
 use domain_base::{Name, Rtype};
 
@@ -32,7 +32,7 @@ impl Shape {
             Shape::LongAddress => "the 16 octets of an address",
             Shape::Service => "three numbers of two octets and a name",
             Shape::Certificate => "three octets and a certificate's",
-            Shape::Issuers => "an octet of flags, a tag and a value",
+            Shape::Issuers => "an octet of flags, a tag after its length, and a value",
             Shape::Whatever => "",
         }
     }
@@ -69,6 +69,17 @@ fn are_texts(octets: &[u8]) -> bool
     left == 0 && !octets.is_empty()
 }
 
+/// Returns whether the octets are CAA data: an octet of flags, an octet with the length of the tag,
+/// which is at least 1, and the tag, which does not go past the data (RFC 8659, section 4.1).
+fn have_tag(octets: &[u8]) -> bool
+    ensures { IsTrue result ↔ HaveTag octets.now }
+{
+    match octets {
+        [_flags, count, behind @ ..] => *count > 0 && usize::from(*count) <= behind.len(),
+        _ => false,
+    }
+}
+
 /// Returns whether octets have the shape.
 pub fn is_such(shape: Shape, octets: &[u8]) -> bool
     ensures { IsTrue result ↔ IsSuch shape octets.now }
@@ -79,7 +90,7 @@ pub fn is_such(shape: Shape, octets: &[u8]) -> bool
         Shape::LongAddress => octets.len() == 16,
         Shape::Service => octets.len() > 6 && Name::from_octets(&octets[6..]).is_ok(),
         Shape::Certificate => octets.len() > 3,
-        Shape::Issuers => octets.len() > 2,
+        Shape::Issuers => have_tag(octets),
         Shape::Whatever => true,
     }
 }

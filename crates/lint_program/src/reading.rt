@@ -41,11 +41,19 @@ pub struct Lines<'a> {
     ghost paired: { length places.items ≡ length records.items },
 }
 
-/// Returns whether the first word of a line ends with a dot.
+/// Returns whether the first word of a line ends with a dot that no backslash escapes. Of several
+/// backslashes before the dot, each second one is escaped by the one before it.
 fn has_dot(line: &[u8]) -> bool {
     let mut words = line.split(|octet| *octet <= b' ');
-    let first = words.find(|word| !word.is_empty());
-    first.unwrap_or(line).ends_with(b".")
+    let first = words.find(|word| !word.is_empty()).unwrap_or(line);
+    let [before @ .., b'.'] = first else {
+        return false;
+    };
+    let mut is_escaped = false;
+    for octet in before {
+        is_escaped = !is_escaped & (*octet == b'\\');
+    }
+    !is_escaped
 }
 
 /// Returns the lines that are not records, and the records of the other lines, with their octets in

@@ -40,7 +40,8 @@ const NUMBER32: &str = "a number from 0 to 4294967295";
 
 const TYPE: &str = "as A, or TYPE and its number";
 
-const TIME: &str = "YYYYMMDDHHmmSS, or the seconds since 1970";
+/// The format of a time: the seconds, and no date.
+pub const TIME: &str = "the seconds since 1970, a number from 0 to 4294967295";
 
 /// The fields of SOA data (RFC 1035, section 3.3.13).
 const SOA_FIELDS: [Field; 7] = [
