@@ -263,8 +263,9 @@ impl<N, O: Octets> Nsec3Records<N, O> {
 ///   canonical order.
 /// - `Nsec3HashingError` with `CollisionDetected` if two names of the chain have the same hash.
 ///
-/// `OutOfMemory` if there is no memory, or if the chain would have 2^32 names or more. The zone then
-/// has neither of the first two faults. It may have a fault of hashing, since hashes take memory.
+/// `OutOfMemory` if there is no memory, or if the chain would have 2^32 names or more. The zone
+/// then has neither of the first two faults. It may have a fault of hashing, since hashes take
+/// memory.
 pub fn generate_nsec3s<S: Sorter, H: Nsec3Hasher, O, N: MakeName, D: ZoneData>(
     alloc: Global,
     apex: &N,
