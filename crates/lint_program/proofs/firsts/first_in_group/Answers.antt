@@ -5,7 +5,7 @@ use Rattle.lint_program.proofs.firsts.first_in_group.Goals as goal
 
 pub returns-in-Some : goal.returns-in-Some
 returns-in-Some c = λ before firsts. (
-  grind (arith, common_steps, (firsts (group_of c.args.look c.args.apex.now c.args.placed.entry.borrowed.now))),
+  grind (arith, common_steps, (firsts (group_of c.args.look c.args.apex.now c.args.placed.borrowed.now))),
   λ q. grind (
     arith,
     common_steps,
@@ -13,13 +13,13 @@ returns-in-Some c = λ before firsts. (
     find-append,
     same_first,
     (firsts q),
-    (firsts (group_of c.args.look c.args.apex.now c.args.placed.entry.borrowed.now)),
+    (firsts (group_of c.args.look c.args.apex.now c.args.placed.borrowed.now)),
   ),
 )
 
 pub returns : goal.returns
 returns c = λ before firsts. (
-  grind (arith, common_steps, (firsts (group_of c.args.look c.args.apex.now c.args.placed.entry.borrowed.now))),
+  grind (arith, common_steps, (firsts (group_of c.args.look c.args.apex.now c.args.placed.borrowed.now))),
   λ q. grind (
     arith,
     common_steps,
@@ -28,7 +28,7 @@ returns c = λ before firsts. (
     find-append,
     same_first,
     (firsts q),
-    (firsts (group_of c.args.look c.args.apex.now c.args.placed.entry.borrowed.now)),
+    (firsts (group_of c.args.look c.args.apex.now c.args.placed.borrowed.now)),
     (c.in_ok-insert.ensures.updates.0 (by_number q)),
   ),
 )
