@@ -1,48 +1,19 @@
 //! The first record of each group.
 ghost use Rattle.std.specs.Prelude.{◌≡◌, List, [], ◌∷◌, ◌++◌, IfOk, option_map};
 ghost use Rattle.domain_borrowed.specs.Data.{RawRecord};
-ghost use Rattle.lint_program.specs.Notes.{by_number, group_of, number_of, AreFirsts, earlier};
+ghost use Rattle.lint_program.specs.Notes.{AreFirsts, earlier};
 
 use crate::looks::{Group, Look, Placed, group_of};
-use domain_base::{Name, ParsedName};
-use domain_borrowed::BorrowedRecord;
+use domain_base::ParsedName;
 use std::alloc::AllocError;
 use std::collections::BTreeMap;
-use std::hash::{FoldHasher, Hash, Hasher};
-
-/// The first record of each group. A group comes after the number of its name, so most comparisons
-/// of groups compare two numbers.
-pub type Firsts<'z, 'a> = BTreeMap<(u64, Group<'z>), Placed<'z, 'a>>;
-
-/// Returns the number of a name: the hash of its octets in lower case.
-#[tactic(auto, unfolding(crate::specs::Notes::number_of))]
-fn number_of(name: &Name<&[u8]>) -> u64
-    ensures { result ≡ number_of name.now }
-{
-    let mut hasher = FoldHasher::default();
-    name.hash(&mut hasher);
-    hasher.finish()
-}
-
-/// Returns the group of a record, after the number of its name.
-#[tactic(auto, unfolding(crate::specs::Notes::by_number))]
-fn key_of<'z>(
-    look: Look,
-    apex: &'z ParsedName<'_>,
-    borrowed: &'z BorrowedRecord<'_>,
-) -> (u64, Group<'z>)
-    ensures { result ≡ by_number (group_of look apex.now borrowed.now) }
-{
-    let group = group_of(look, apex, borrowed);
-    (number_of(&group.0), group)
-}
 
 /// Returns the first record in the group of a record. If there is none, this record becomes the
 /// first.
 pub fn first_in_group<'z, 'a>(
     look: Look,
     apex: &'z ParsedName<'_>,
-    firsts: &mut Firsts<'z, 'a>,
+    firsts: &mut BTreeMap<Group<'z>, Placed<'z, 'a>>,
     placed: Placed<'z, 'a>,
 ) -> Result<Option<Placed<'z, 'a>>, AllocError>
     ensures { IfOk result (λ first. (before : List RawRecord)
@@ -51,10 +22,10 @@ pub fn first_in_group<'z, 'a>(
         ≡ earlier look apex.now before placed.entry.borrowed.now)
         × AreFirsts look apex.now (before ++ placed.entry.borrowed.now ∷ []) firsts.new) }
 {
-    let key = key_of(look, apex, placed.borrowed);
-    if let Some(first) = firsts.get(&key) {
+    let group = group_of(look, apex, placed.borrowed);
+    if let Some(first) = firsts.get(&group) {
         return Ok(Some(*first));
     }
-    firsts.insert(key, placed)?;
+    firsts.insert(group, placed)?;
     Ok(None)
 }
