@@ -1,13 +1,13 @@
 -- The canonical order of names, and what is at or below a name.
 use Rattle.std.proofs.Common.{◌≡◌, ℕ, zero, suc, ◌+◌, ◌-◌, ◌≤◌, List, [], ◌∷◌, ◌++◌, length, min, take, drop, map, reverse, Bool, cond, ap, arith, nat_eq, ◌<◌}
-use Rattle.std.proofs.{Common.{refl, sym, ◌∙◌, length-append, ◌⊎◌, subst, get_or, w8, w64, Fits}, lemmas.Grind.common_steps}
+use Rattle.std.proofs.{Common.{refl, sym, ◌∙◌, length-append, ◌⊎◌, get_or, w8, w64, Fits}, lemmas.Grind.common_steps}
 use Rattle.std.proofs.lemmas.List.{drop-map, take-append-drop, length-map, drop_at, get_or-take, get_or_past}
 use Rattle.std.{proofs.{Math.Seq.take-add, lemmas.Nat.le_bytes_8}, specs.{Array.IsFirstChunk, Int.{from_le_bytes, to_le_bytes}}}
 use Rattle.std.{proofs.lemmas.{List.Elements.{All-map, All-weaker}, Bool.Decides.nat_tests}, specs.{declared.cmp.Ordering.Ordering, Ordering.ordering_then}}
 use Rattle.std.specs.{Ordering.{nat_cmp, is_eq}, Char.to_ascii_lowercase, List.{common_prefix_len, AllByRecursion}, Prelude.true, Cmp.both_ways}
 use Rattle.std.specs.{Cmp.Lexicographic.{slice_cmp, pointwise, bytes_decides, lists_ties, texts_ties, pointwise_decides}, Bool.Decides}
 use Rattle.domain_names.specs.Name.{canonical_cmp, common_labels, from_root, Name, Label, wire_of, lowered, IsLabel, IsName, IsSame, IsAtOrBelow}
-use Rattle.domain_names.specs.{Name.{is_at_or_below, same_name}, Wire.{labels_of, IsWire}, Laws.{same_name_same, same_tied}, Part.BeginAlike}
+use Rattle.domain_names.specs.{Name.is_at_or_below, Wire.{labels_of, IsWire}, Laws.{same_name_same, same_tied}, Part.BeginAlike}
 use Rattle.domain_names.proofs.WireLemmas.{labels_of-wire_of, wire_is, few_labels}
 
 -- ---- the canonical order by labels from the leaf, and how many labels are shared
@@ -131,6 +131,18 @@ at_or_below_test name above =
     )
 
 pub ruleset same_steps = (common_steps, same_from_octets, octets_from_same, same_name_same, same_octets, both_ways)
+
+-- octets are the same, with A to Z lowered, exactly if their order is a tie
+pub alike_tied : (a b : List ℕ)
+    → Decides (is_eq (slice_cmp nat_cmp (map to_ascii_lowercase a) (map to_ascii_lowercase b))) (map to_ascii_lowercase a ≡ map to_ascii_lowercase b)
+alike_tied a b =
+    let ties = texts_ties (map to_ascii_lowercase a) (map to_ascii_lowercase b) in
+    let octets = bytes_decides (map to_ascii_lowercase a) (map to_ascii_lowercase b) in
+    ((λ tied. octets.0 (ties ∙ tied)), (λ same. sym ties ∙ octets.1 same))
+
+-- such octets have one length
+pub alike_length : (a b : List ℕ) → map to_ascii_lowercase a ≡ map to_ascii_lowercase b → length a ≡ length b
+alike_length a b same = sym (length-map a to_ascii_lowercase) ∙ ap length same ∙ length-map b to_ascii_lowercase
 
 -- octets of which one list is at its end
 pub lengths_decide : (a b : List ℕ) (i : ℕ) → i ≡ min (length a) (length b)

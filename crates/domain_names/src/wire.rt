@@ -139,6 +139,15 @@ pub(crate) fn compare_from_leaf(a: &[u8], b: &[u8]) -> Comparison
     }
 }
 
+/// Returns whether octets differ at most in the case of letters. Eight octets that are the same
+/// take one step.
+#[tactic(auto, using(crate::proofs::OrderLemmas::alike_tied, crate::proofs::OrderLemmas::alike_length))]
+fn is_alike(a: &[u8], b: &[u8]) -> bool
+    ensures { IsTrue result ↔ (map to_ascii_lowercase a.now ≡ map to_ascii_lowercase b.now) }
+{
+    a.len() == b.len() && lowered_octets_cmp(a, b).is_eq()
+}
+
 /// Returns whether two names differ at most in the case of letters.
 #[tactic(auto, using(crate::proofs::OrderLemmas::same_steps))]
 pub fn is_same(a: &[u8], b: &[u8]) -> bool
@@ -147,7 +156,7 @@ pub fn is_same(a: &[u8], b: &[u8]) -> bool
     ensures value { result ≡ same_name (labels_of a.now) (labels_of b.now) }
     ensures same { IsTrue result ↔ IsSame (labels_of a.now) (labels_of b.now) }
 {
-    a == b || a.eq_ignore_ascii_case(b)
+    a == b || is_alike(a, b)
 }
 
 /// Feeds a name's octets to a hasher, with A to Z lowered.
