@@ -444,8 +444,9 @@ uint32_t denial_nsec_chain(const uint8_t *apex, size_t apex_length,
  *
  *   iterations   the number of additional iterations. 0 is recommended (RFC 9276, section 3.1).
  *   salt         the octets of the salt. No salt is recommended.
- *   opt_out      whether delegations without DS are left out, and all records have the opt-out flag (RFC 5155,
- *                section 6).
+ *   opt_out      whether delegations without DS are left out, and all NSEC3 records have the opt-out flag (RFC
+ *                5155, section 6). The NSEC3PARAM record has flags 0, as a zone publishes it: name servers
+ *                ignore one with other flags, and send no NSEC3 record (section 4.1.2).
  *
  * The faults, in the order in which they are reported: DENIAL_BAD_APEX; DENIAL_LONG_SALT; DENIAL_BAD_RECORDS or
  * DENIAL_OTHER_CLASS, the one that comes first in the octets; DENIAL_NO_SINGLE_SOA; DENIAL_UNEQUAL_TTLS;

@@ -132,3 +132,12 @@ def record(text):
 def records(text):
     """Returns the octets of records with slashes between them."""
     return b"".join(record(it) for it in text.split(" / ") if it.strip())
+
+
+def published(text):
+    """Returns the line of a record as the library writes it: NSEC3PARAM has flags 0.
+
+    The program prints the opt-out flag there, for which name servers ignore the record (RFC 5155,
+    section 4.1.2).
+    """
+    return text.replace(" NSEC3PARAM 1 1 ", " NSEC3PARAM 1 0 ")

@@ -724,6 +724,14 @@ static void try_null(void)
     expect("no salt, no count",
            denial_nsec3_chain(apex.at, apex.length, IN, true, false, 0, NULL, 0, false, zone.at, zone.length, made,
                               sizeof made, NULL), 0, DENIAL_CHAIN_MADE, 0);
+    expect("opt-out", denial_nsec3_chain(apex.at, apex.length, IN, true, false, 0, NULL, 0, true, zone.at, zone.length,
+                                         made, sizeof made, &count), 0, DENIAL_CHAIN_MADE, 0);
+    /* The flags of the first record, after its owner of one label before the apex, and of the last one, whose data
+     * are five octets. */
+    if (made[33 + apex.length + 11] != 1 || made[count - 4] != 0) {
+        puts("differs: flags of an NSEC3 record and of NSEC3PARAM with opt-out");
+        failures++;
+    }
     expect("no records of a zone",
            denial_nsec3_chain(apex.at, apex.length, IN, true, false, 0, NULL, 0, false, NULL, 0, NULL, 0, NULL), 0,
            DENIAL_NO_SINGLE_SOA, 0);

@@ -131,3 +131,4 @@ pub use domain_zone::find_soa;
 pub use error::Error;
 pub use wire::compose_nsec3s;
 pub use wire::compose_nsecs;
+pub use wire::published_nsec3param;

@@ -3,7 +3,7 @@ ghost use Rattle.std.specs.Prelude.{◌≡◌, ◌<◌, ◌++◌, length, IfErr,
 ghost use Rattle.domain_nsec.specs.Chain.{as_link};
 ghost use Rattle.domain_nsec3.specs.View.{as_param_record};
 ghost use Rattle.domain_borrowed.specs.Data.{nsec_record, nsec3_record, param_record, record_octets};
-ghost use Rattle.domain_dnssec.specs.Wire.{nsecs_octets, nsec3s_octets, HasLong, IsUncomposed};
+ghost use Rattle.domain_dnssec.specs.Wire.{nsecs_octets, nsec3s_octets, published, HasLong, IsUncomposed};
 
 use crate::Error;
 use domain_base::{Class, Name, ParsedName, ToName};
@@ -87,9 +87,23 @@ fn add_param<O: Octets>(
     }
 }
 
-/// Appends the records of an NSEC3 chain, one after another, and its NSEC3PARAM record, in wire
-/// format without compression (RFC 1035, section 3.2.1; RFC 5155, sections 3.2 and 4.2). Owners are
-/// encoded in memory of `alloc`.
+/// Returns the NSEC3PARAM record that a zone publishes: the same with flags 0. Name servers ignore
+/// a record with other flags, and then deny nothing by NSEC3 (RFC 5155, section 4.1.2). The record
+/// of a chain with opt-out has flags 1. Does not allocate.
+pub fn published_nsec3param<'a, N: ToName, O: Octets>(
+    param: &'a Record<N, Nsec3param<O>>,
+) -> Record<ParsedName<'a>, Nsec3param<&'a [u8]>>
+    ensures { as_param_record (λ n. n) result ≡ published (as_param_record N.labels param.now) }
+{
+    let data = param.data();
+    let salt = data.salt().with_octets(data.salt().as_slice());
+    let data = Nsec3param::new(data.hash_algorithm(), 0, data.iterations(), salt);
+    Record::new(param.owner().as_parsed(), param.class(), param.ttl(), data)
+}
+
+/// Appends the records of an NSEC3 chain, one after another, and the NSEC3PARAM record that its
+/// zone publishes, with flags 0. They are in wire format without compression (RFC 1035, section
+/// 3.2.1; RFC 5155, sections 3.2 and 4.2). Owners are encoded in memory of `alloc`.
 ///
 /// # Errors
 ///
@@ -110,6 +124,6 @@ pub fn compose_nsec3s<O: Octets>(
         };
         add_nsec3(alloc, &nsec3, octets)?;
     }
-    add_param(chain.nsec3param(), octets)?;
+    add_param(&published_nsec3param(chain.nsec3param()), octets)?;
     Ok(())
 }

@@ -30,12 +30,18 @@ fn octets(
     Ok(octets)
 }
 
-/// Returns the octets of the NSEC3 chain of a zone of one class, and of its NSEC3PARAM record.
-fn hashed_octets(alloc: Global, apex: &ZoneName, zone: &Zone) -> Result<Vec<u8>, Error>
+/// Returns the octets of the NSEC3 chain of a zone of one class, and of the NSEC3PARAM record that
+/// the zone publishes.
+fn hashed_octets(
+    alloc: Global,
+    apex: &ZoneName,
+    zone: &Zone,
+    flags: u8,
+) -> Result<Vec<u8>, Error>
     requires { IsOneClass zone.now }
 {
     let salt = Nsec3Salt::empty(alloc);
-    let params = Nsec3param::new(Nsec3HashAlgorithm::SHA1, 0, 0, salt);
+    let params = Nsec3param::new(Nsec3HashAlgorithm::SHA1, flags, 0, salt);
     let config: GenerateNsec3Config<Vec<u8>, InPlaceSorter> = GenerateNsec3Config::new(params);
     let chain = Nsec3Chain::generate(alloc, apex, zone.owner_rrs(), &config, &Sha1Hasher)?;
     let mut octets = Vec::new(alloc);
@@ -52,11 +58,12 @@ fn add_octets(octets: &[u8], text: &mut String) -> Result<(), Error> {
     Ok(())
 }
 
-/// Prints both chains of the small zone in wire format.
+/// Prints the chains of the small zone in wire format: NSEC, NSEC3, and NSEC3 with opt-out.
 pub fn show(alloc: Global, text: &mut String) -> Result<(), Error> {
     let apex = ZoneName::from_str(alloc, "example.")?;
     let zone = zone(alloc)?;
     let config = GenerateNsecConfig::new();
     add_octets(&octets(alloc, &apex, &zone, &config)?, text)?;
-    add_octets(&hashed_octets(alloc, &apex, &zone)?, text)
+    add_octets(&hashed_octets(alloc, &apex, &zone, 0)?, text)?;
+    add_octets(&hashed_octets(alloc, &apex, &zone, 1)?, text)
 }
