@@ -10,9 +10,9 @@
  * has that many labels.
  *
  * FILE is an answer as `dig +dnssec` printed it, a chain or a signed zone, one record a line. Without
- * NAME and TYPE the program takes the question of the answer. It passes all records as they are, and the
- * library ignores those that deny nothing. Of signatures the program reads only the field Labels: a
- * validator checks them first.
+ * NAME and TYPE the program takes the question of the answer. It leaves out NSEC and NSEC3 records that
+ * were expanded from a wildcard, which the field Labels of their signatures shows, and passes all others
+ * as they are. Of signatures the program reads only that field: a validator checks them first.
  */
 #include <stdio.h>
 #include <stdlib.h>

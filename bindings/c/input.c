@@ -72,33 +72,95 @@ static void read_expansion(struct input *input, const ldns_rr *signature)
     input->rrsig_labels = labels;
 }
 
-/* Writes the record of a line, as it stands in a message. */
-static void read_record(struct input *input, const ldns_rdf *apex, const char *line)
+/* The NSEC and NSEC3 records that were read, and the signatures of those that were expanded from a wildcard. */
+struct denying {
+    ldns_rr_list *records;
+    ldns_rr_list *expanded;
+};
+
+/* Whether the record has such a signature: the field Labels is not the number of labels of the owner (RFC 4034,
+ * section 3.1.3). It was not signed with this owner, and would deny names that exist (CVE-2017-15105). */
+static int was_expanded(const struct denying *denying, const ldns_rr *record)
+{
+    size_t i;
+
+    for (i = 0; i < ldns_rr_list_rr_count(denying->expanded); i++) {
+        const ldns_rr *signature = ldns_rr_list_rr(denying->expanded, i);
+
+        if (ldns_rdf2rr_type(ldns_rr_rrsig_typecovered(signature)) == ldns_rr_get_type(record)
+            && ldns_dname_compare(ldns_rr_owner(signature), ldns_rr_owner(record)) == 0)
+            return 1;
+    }
+    return 0;
+}
+
+/* Writes a record in wire form. */
+static void write_record(struct input *input, const ldns_rr *record)
+{
+    ldns_buffer_reserve(input->records, 65536 + 512);
+    ldns_rr2buffer_wire(input->records, record, LDNS_SECTION_ANSWER);
+}
+
+/* Writes the NSEC and NSEC3 records that were not expanded, and before the first NSEC3 record its parameters. */
+static void write_denying(struct input *input, const ldns_rdf *apex, const struct denying *denying)
+{
+    size_t i;
+
+    for (i = 0; i < ldns_rr_list_rr_count(denying->records); i++) {
+        const ldns_rr *record = ldns_rr_list_rr(denying->records, i);
+        int is_hashed = ldns_rr_get_type(record) == LDNS_RR_TYPE_NSEC3;
+
+        if (was_expanded(denying, record))
+            continue;
+        if (is_hashed && !input->has_param) {
+            ldns_buffer_reserve(input->records, 512);
+            write_param(input, apex, record);
+            input->has_param = 1;
+        }
+        input->is_hashed |= is_hashed;
+        write_record(input, record);
+    }
+}
+
+/* Takes a signature into account: of records that answer the question, or of a record that denies. */
+static void read_signature(struct input *input, struct denying *denying, const ldns_rr *signature)
+{
+    ldns_rr_type covered = ldns_rdf2rr_type(ldns_rr_rrsig_typecovered(signature));
+
+    read_expansion(input, signature);
+    if ((covered == LDNS_RR_TYPE_NSEC || covered == LDNS_RR_TYPE_NSEC3)
+        && ldns_rdf2native_int8(ldns_rr_rrsig_labels(signature)) != count_labels(ldns_rr_owner(signature)))
+        ldns_rr_list_push_rr(denying->expanded, ldns_rr_clone(signature));
+}
+
+/* Reads the record of a line. Writes it, unless it denies: whether it counts depends on its signatures. */
+static void read_record(struct input *input, struct denying *denying, const char *line)
 {
     ldns_rr *record = NULL;
-    ldns_rr_type rtype;
 
     if (ldns_rr_new_frm_str(&record, line, 0, NULL, NULL) != LDNS_STATUS_OK)
         fail("no record", line);
-    rtype = ldns_rr_get_type(record);
-    ldns_buffer_reserve(input->records, 65536 + 512);
-    if (rtype == LDNS_RR_TYPE_NSEC3 && !input->has_param) {
-        write_param(input, apex, record);
-        input->has_param = 1;
+    switch (ldns_rr_get_type(record)) {
+    case LDNS_RR_TYPE_NSEC:
+    case LDNS_RR_TYPE_NSEC3:
+        ldns_rr_list_push_rr(denying->records, record);
+        return;
+    case LDNS_RR_TYPE_NSEC3PARAM:
+        /* The parameters are those of the first NSEC3 record: a response has no such record. */
+        break;
+    case LDNS_RR_TYPE_RRSIG:
+        read_signature(input, denying, record);
+        /* fall through */
+    default:
+        write_record(input, record);
     }
-    /* The NSEC3PARAM record of a zone says the same as its NSEC3 records, of which the first one
-     * was taken at its word. */
-    if (rtype != LDNS_RR_TYPE_NSEC3PARAM)
-        ldns_rr2buffer_wire(input->records, record, LDNS_SECTION_ANSWER);
-    input->is_hashed |= rtype == LDNS_RR_TYPE_NSEC3;
-    if (rtype == LDNS_RR_TYPE_RRSIG)
-        read_expansion(input, record);
     ldns_rr_free(record);
 }
 
 void read_file(struct input *input, const ldns_rdf *apex, const char *path)
 {
     static char line[1 << 18];
+    struct denying denying = {ldns_rr_list_new(), ldns_rr_list_new()};
     FILE *file = fopen(path, "r");
 
     if (file == NULL)
@@ -108,7 +170,10 @@ void read_file(struct input *input, const ldns_rdf *apex, const char *path)
         if (line[0] == ';')
             read_question(input, line);
         else if (line[strspn(line, " \t")] != 0)
-            read_record(input, apex, line);
+            read_record(input, &denying, line);
     }
     fclose(file);
+    write_denying(input, apex, &denying);
+    ldns_rr_list_deep_free(denying.records);
+    ldns_rr_list_deep_free(denying.expanded);
 }

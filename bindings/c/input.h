@@ -27,8 +27,9 @@ ldns_rdf *name_of(const char *text);
 
 /*
  * Reads an answer as `dig +dnssec` printed it, a chain or a signed zone, one record a line. Ends the
- * program if a line is no record. With NSEC3 records there is one NSEC3PARAM record of the apex. If the
- * input has no question yet, it gets that of the first line that has one.
+ * program if a line is no record. Leaves out NSEC and NSEC3 records that were expanded from a wildcard:
+ * they would deny names that exist. With NSEC3 records there is one NSEC3PARAM record of the apex. If
+ * the input has no question yet, it gets that of the first line that has one.
  */
 void read_file(struct input *input, const ldns_rdf *apex, const char *path);
 
