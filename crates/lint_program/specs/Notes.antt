@@ -72,11 +72,11 @@ frame SecondSoa = (codes "the apex owns the SOA record of line ", codes " alread
 frame StraySoa = ([], codes " owns an SOA record, and is not the apex")
 frame OtherClass = (codes "the class is ", [])
 frame OtherTtl = (codes "the TTL is ", [])
-frame Outside = ([], codes ": the record is passed over")
-frame BesideAlias = ([], codes ", with the same owner: one of them is CNAME, which stands alone")
-frame OddData = (codes "the octets are no data of ", [])
+frame Outside = ([], codes ": the record is ignored")
+frame BesideAlias = ([], codes " have the same owner: a CNAME record must be the only one there")
+frame OddData = (codes "the data are not valid for ", [])
 frame Parameters =
-    (codes "NSEC3PARAM with further iterations or a salt: ", codes " wants 0 and none")
+    (codes "NSEC3PARAM has additional iterations or a salt: ", codes " recommends 0 and none")
 
 -- ---- The notes about the records that were read: one for each record that deserves it, and no
 -- other.

@@ -50,12 +50,12 @@ fn told_of_generic(
     };
     let Ok(wanted) = u16::from_token(count) else {
         let said = quoted(alloc, count.as_bytes())?;
-        let text = format!(in alloc; "{said} is no number of octets: from 0 to 65535")?;
+        let text = format!(in alloc; "{said} is not a number of octets: expected 0 to 65535")?;
         return Ok((COUNT, text));
     };
     if let Some(place) = first_other(BASE16, data, 2) {
         let said = quoted(alloc, data.get(place).copied().unwrap_or("").as_bytes())?;
-        let text = format!(in alloc; "{said} is no Base 16, in which the octets are written")?;
+        let text = format!(in alloc; "{said} is not Base 16: write each octet as two digits")?;
         return Ok((place.saturating_add(FIRST), text));
     }
     let mut found: usize = 0;
@@ -63,7 +63,7 @@ fn told_of_generic(
         found = found.saturating_add(word.len());
     }
     if found % 2 != 0 {
-        let text = format!(in alloc; "the digits of Base 16 are no whole number of octets")?;
+        let text = format!(in alloc; "the Base 16 digits do not encode whole octets")?;
         return Ok((OCTETS, text));
     }
     if found / 2 != usize::from(wanted) {
@@ -73,7 +73,7 @@ fn told_of_generic(
     let wrong = if found == 0 { COUNT } else { OCTETS };
     Ok((
         wrong,
-        format!(in alloc; "these octets are no data of {rtype}")?,
+        format!(in alloc; "these octets do not encode data of {rtype}")?,
     ))
 }
 
@@ -92,7 +92,7 @@ pub fn told_of_data(
     let Some((name, form)) = field_at(rtype, place) else {
         let form = generic_form(alloc, rtype, data)?;
         let text = format!(in alloc;
-            "data of {rtype} have no text of their own here: write {form}"
+            "data of {rtype} have no presentation format here: write {form}"
         )?;
         return Ok((number, text));
     };
@@ -103,7 +103,9 @@ pub fn told_of_data(
         Some(place)
     };
     let Some(place) = place else {
-        let text = format!(in alloc; "the {name} ({rtype}) is no whole number of octets: {form}")?;
+        let text = format!(in alloc;
+            "the {name} ({rtype}) does not encode whole octets: expected {form}"
+        )?;
         return Ok((last.saturating_add(FIRST), text));
     };
     let word = data.get(place).copied().unwrap_or("");
@@ -125,27 +127,27 @@ fn told_of_field(
             return format!(in alloc; "{said} is a date: write the seconds since 1970, {seconds}");
         }
     }
-    let wanted = if form == NAME {
-        name_trouble(word)
+    let (expected, wanted) = if form == NAME {
+        ("", name_trouble(word))
     } else {
-        form
+        ("expected ", form)
     };
-    format!(in alloc; "{said} is no {name} ({rtype}): {wanted}")
+    format!(in alloc; "{said} is not a valid {name} ({rtype}): {expected}{wanted}")
 }
 
 /// Returns the explanation for data that end too early.
 pub fn missing_data(alloc: Global, rtype: Rtype, data: &[&str]) -> Result<String, AllocError> {
     if data.first() == Some(&"\\#") {
         return format!(in alloc;
-            "the line ends here: the number of octets is missing, and they are"
+            "the line ends here: the number of octets and the octets are missing"
         );
     }
     match field_at(rtype, data.len()) {
         Some((name, form)) => format!(in alloc;
-            "the line ends here: the {name} ({rtype}) is missing, {form}"
+            "the line ends before the {name} ({rtype}): expected {form}"
         ),
         None => format!(in alloc;
-            "the line ends here: data of {rtype} are missing, in the generic form, \\# COUNT HEX \
+            "the line ends before the data of {rtype}: expected the generic form, \\# COUNT HEX \
              (RFC 3597)"
         ),
     }

@@ -21,8 +21,8 @@ pub fn explain(alloc: Global, line: &[u8]) -> Result<(usize, String), AllocError
         if let Some(octet) = word.iter().find(|octet| **octet > b'~') {
             let said = quoted(alloc, word)?;
             let text = format!(in alloc;
-                "{said} has the octet {octet}, which is past `~`: \
-                 write it as \\{octet:03}, and a name of a host in its form of ASCII (xn--)"
+                "{said} has the octet {octet}, which is not printable ASCII: write it as \
+                 \\{octet:03}, and an internationalized label as an A-label (xn--)"
             )?;
             return Ok((words.len().saturating_add(1), text));
         }
@@ -32,7 +32,7 @@ pub fn explain(alloc: Global, line: &[u8]) -> Result<(usize, String), AllocError
     }
     if let Some(directive) = directive_of(&words) {
         let text = format!(in alloc;
-            "'{directive}' is a directive, and none is read here: denial-zone reads zone files"
+            "'{directive}' is a directive, which is not read here: denial-zone reads zone files"
         )?;
         return Ok((1, text));
     }
@@ -56,12 +56,11 @@ fn explain_words(
     words: &[&str],
 ) -> Result<(usize, String), AllocError> {
     let Some((number, part)) = refusal_of(alloc, words)? else {
-        return Ok((1, format!(in alloc; "the line is no record")?));
+        return Ok((1, format!(in alloc; "the line is not a record")?));
     };
     if let ([b' ' | b'\t', ..], Part::Ttl | Part::Class | Part::Type) = (line, part) {
         let text = format!(in alloc;
-            "the line begins with a blank: the owner is missing, which stands in front of each \
-             record"
+            "the line begins with a blank: write the owner in front of each record"
         )?;
         return Ok((1, text));
     }
@@ -116,9 +115,9 @@ fn told_of_word(
     let said = quoted(alloc, word.as_bytes())?;
     let next = words.get(2).copied().unwrap_or("");
     match part {
-        Part::Owner => format!(in alloc; "{said} is no name: {}", name_trouble(word)),
-        Part::Ttl => format!(in alloc; "{said} is no TTL: {}", ttl_trouble(alloc, word, next)?),
-        Part::Class => format!(in alloc; "{said} is no class: {}", class_trouble(word)),
+        Part::Owner => format!(in alloc; "{said} is not a name: {}", name_trouble(word)),
+        Part::Ttl => format!(in alloc; "{said} is not a TTL: {}", ttl_trouble(alloc, word, next)?),
+        Part::Class => format!(in alloc; "{said} is not a class: {}", class_trouble(word)),
         Part::Type => format!(in alloc; "{said} {}", type_trouble(alloc, word)?),
         Part::Data(rtype) | Part::Nothing(rtype) => format!(in alloc;
             "{said} is one word too many: data of {rtype} end before it"

@@ -97,20 +97,20 @@ fn seconds_of(word: &str) -> Option<u64> {
 /// Returns what is wrong with a TTL. `next` is the word after it.
 pub fn ttl_trouble(alloc: Global, word: &str, next: &str) -> Result<String, AllocError> {
     if let Some(seconds) = seconds_of(word) {
-        return format!(in alloc; "write {seconds}, the seconds");
+        return format!(in alloc; "write {seconds} seconds, without a unit");
     }
     let is_class = Class::from_token(word).is_ok();
     if is_class && Ttl::from_token(next).is_ok() {
-        return format!(in alloc; "write {next} before it, and not behind it");
+        return format!(in alloc; "write {next} before it, not after it");
     }
     let trouble = if word.as_bytes().iter().all(|octet| octet.is_ascii_digit()) {
-        "it is at most 4294967295 seconds"
+        "it is over 4294967295 seconds"
     } else if is_class {
-        "that is missing before it"
+        "the TTL is missing before it"
     } else if Rtype::from_token(word).is_ok() {
-        "that and the class are missing before it"
+        "the TTL and the class are missing before it"
     } else {
-        "a number of seconds from 0 to 4294967295"
+        "expected a number of seconds from 0 to 4294967295"
     };
     format!(in alloc; "{trouble}")
 }
@@ -118,9 +118,9 @@ pub fn ttl_trouble(alloc: Global, word: &str, next: &str) -> Result<String, Allo
 /// Returns what is wrong with a class.
 pub fn class_trouble(word: &str) -> &'static str {
     if Rtype::from_token(word).is_ok() {
-        return "that is missing before it, as IN";
+        return "the class is missing before it, such as IN";
     }
-    "IN, CH, HS, or CLASS and its number"
+    "expected IN, CH, HS, or CLASS and its number"
 }
 
 /// The numbers of some types that have no name here.
@@ -149,10 +149,10 @@ pub fn type_trouble(alloc: Global, word: &str) -> Result<String, AllocError> {
     for (name, number) in OTHER_TYPES {
         if word.eq_ignore_ascii_case(name) {
             return format!(in alloc;
-                "is no name of a type here: write TYPE{number}, and its data in the generic form, \
-                 \\# COUNT HEX (RFC 3597), as denial-zone does"
+                "is a type without a name here: write TYPE{number}, and the data in the generic \
+                 form, \\# COUNT HEX (RFC 3597), as denial-zone does"
             );
         }
     }
-    format!(in alloc; "is no type: as A, or TYPE and its number")
+    format!(in alloc; "is not a type: expected a name such as A, or TYPE and its number")
 }

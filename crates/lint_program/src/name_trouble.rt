@@ -3,7 +3,7 @@
 
 use crate::wanted::NAME;
 
-const BAD_DIGITS: &str = "a backslash and a digit are followed by two more digits, up to \\255";
+const BAD_DIGITS: &str = "after a backslash, three digits from 000 to 255 give an octet";
 
 /// Returns what is wrong with a word that does not spell a name.
 pub fn name_trouble(word: &str) -> &'static str {
@@ -45,7 +45,7 @@ pub fn name_trouble(word: &str) -> &'static str {
         label = label.saturating_add(1);
     }
     if escape.is_some() {
-        return "it ends behind a backslash";
+        return "it ends after a backslash";
     }
     if before.saturating_add(label) >= 254 {
         return "it has more than 255 octets";

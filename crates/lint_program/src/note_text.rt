@@ -18,15 +18,15 @@ impl Reason {
             Reason::StraySoa => ("", " owns an SOA record, and is not the apex"),
             Reason::OtherClass => ("the class is ", ""),
             Reason::OtherTtl => ("the TTL is ", ""),
-            Reason::Outside => ("", ": the record is passed over"),
+            Reason::Outside => ("", ": the record is ignored"),
             Reason::BesideAlias => (
                 "",
-                ", with the same owner: one of them is CNAME, which stands alone",
+                " have the same owner: a CNAME record must be the only one there",
             ),
-            Reason::OddData => ("the octets are no data of ", ""),
+            Reason::OddData => ("the data are not valid for ", ""),
             Reason::Parameters => (
-                "NSEC3PARAM with further iterations or a salt: ",
-                " wants 0 and none",
+                "NSEC3PARAM has additional iterations or a salt: ",
+                " recommends 0 and none",
             ),
         }
     }
@@ -53,10 +53,10 @@ pub fn text_of(
         Reason::StraySoa => format!(in alloc; "{name}"),
         Reason::OtherClass => {
             let other = first.borrowed.class();
-            format!(in alloc; "{}, and that of line {line} {other}", borrowed.class())
+            format!(in alloc; "{}, but that of line {line} is {other}", borrowed.class())
         }
         Reason::OtherTtl => format!(in alloc;
-            "{}, and that of line {line}, with the same owner and type, {}",
+            "{}, but that of line {line}, with the same owner and type, is {}",
             borrowed.ttl().as_secs(),
             first.borrowed.ttl().as_secs()
         ),
@@ -64,10 +64,10 @@ pub fn text_of(
             "{name} is outside of the zone {apex}"
         ),
         Reason::Outside => format!(in alloc;
-            "the owner has no dot at its end, so that it is {name}, outside of the zone {apex}"
+            "the owner has no dot at its end, so it is {name}, outside of the zone {apex}"
         ),
-        Reason::BesideAlias => format!(in alloc; "{rtype} stands beside the record of line {line}"),
-        Reason::OddData => format!(in alloc; "{rtype}, which are {}", shape_of(rtype).text()),
+        Reason::BesideAlias => format!(in alloc; "{rtype} and the record of line {line}"),
+        Reason::OddData => format!(in alloc; "{rtype}: expected {}", shape_of(rtype).text()),
         Reason::Parameters => format!(in alloc; "RFC 9276, section 3.1,"),
     }
 }

@@ -38,7 +38,7 @@ const NUMBER16: &str = "a number from 0 to 65535";
 
 const NUMBER32: &str = "a number from 0 to 4294967295";
 
-const TYPE: &str = "as A, or TYPE and its number";
+const TYPE: &str = "a name such as A, or TYPE and its number";
 
 /// The format of a time: the seconds, and no date.
 pub const TIME: &str = "the seconds since 1970, a number from 0 to 4294967295";
