@@ -10,7 +10,8 @@
 //! - `judge_nsec` and `judge_nsec3` return the whole answer: a name error, no data, a delegation,
 //!   an alias, or what a wildcard does.
 //! - `deny_nsec` and `deny_nsec3` pick the records of a chain with which a server answers.
-//! - `compose_nsecs` and `compose_nsec3s` write a chain in wire format.
+//! - `compose_nsecs` and `compose_nsec3s` write a chain in wire format, and `published_nsec3param`
+//!   returns the NSEC3PARAM record that a zone publishes.
 //! - `read_record` reads a record from a message, with compressed names, and `scan_record` one from
 //!   a line of a zone file.
 //!
