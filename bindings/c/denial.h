@@ -57,7 +57,7 @@ enum denial_judgement {
     DENIAL_JUDGED_OUTSIDE_ZONE = 33,
 
     /* The type is DS and the name is the apex: the parent zone has these records (RFC 4035, section
-     * 2.4). This says nothing about the delegation. */
+     * 2.4). This says nothing about the delegation. The root has no parent. */
     DENIAL_JUDGED_AT_PARENT = 34,
 
     /* The name is strictly below a zone cut, or is one and the type is not DS: the child zone answers
@@ -82,8 +82,9 @@ enum denial_judgement {
      * of other types, or is an empty non-terminal. */
     DENIAL_JUDGED_NO_DATA = 40,
 
-    /* The name does not exist, and the wildcard below its closest encloser owns records of the type or
-     * is a zone cut (RFC 4592, section 3.3). With the labels of the closest encloser. */
+    /* The name does not exist, and the wildcard below its closest encloser owns records of the type, or
+     * is a zone cut and the type is not DS (RFC 4592, section 3.3). With the labels of the closest
+     * encloser. */
     DENIAL_JUDGED_WILDCARD = 41,
 
     /* The name does not exist, and the wildcard below its closest encloser owns a CNAME record. With the

@@ -3,7 +3,7 @@
 use Rattle.std.proofs.Common.{◌≡◌, ℕ, Bool, true, false, cond, not, ◌&&◌, ◌||◌, arith, ◌≤◌, ◌<◌, ◌-◌, suc, List, [], ◌∷◌, drop, length, refl, sym, ap, ◌∙◌}
 use Rattle.std.{proofs.{Common.{inl, inr, Some, None, rules, Option}, lemmas.{Grind.common_steps, List.length-drop}}, specs.{List.list_any, Option.option_or}}
 use Rattle.std.proofs.lemmas.Bool.{and_from, and_parts, cases_Bool, false_from_ne_true, false≢true, or_left, and_right, not-false, not-true}
-use Rattle.std.specs.Prelude.{◌==◌}
+use Rattle.std.specs.Prelude.{◌==◌, nat_lt}
 use Rattle.domain_names.specs.Name.{is_at_or_below, is_strictly_below, lowered, same_name, last_labels, before, Label, Name}
 use Rattle.domain_base.specs.Types.{cname, ds, dname}
 use Rattle.domain_zone.proofs.NameLemmas.{before_right, before_order, below_between, below_from, below_length, below_longer, below_parent, below_root}
@@ -24,7 +24,7 @@ pub owned_alike : (c d : Bool) (p q : ℕ → Bool) (m n t : ℕ) → c ≡ d �
     → owned_answer c p m t ≡ owned_answer d q n t
 owned_alike c d p q m n t cut types alias count = grind (arith, common_steps)
 
-pub expanded_alike : (c d : Bool) (p q : ℕ → Bool) (n t : ℕ) → c ≡ d → (c ≡ false → p t ≡ q t) → p cname ≡ q cname
+pub expanded_alike : (c d : Bool) (p q : ℕ → Bool) (n t : ℕ) → c ≡ d → ((c && not (t == ds)) ≡ false → p t ≡ q t) → p cname ≡ q cname
     → expanded_answer c p n t ≡ expanded_answer d q n t
 expanded_alike c d p q n t cut types alias = grind (arith, common_steps)
 
@@ -260,7 +260,7 @@ module _ (L : List ZoneRecord) (a : Name) where
     apart : (o : Name) → is_strictly_below x o ≡ true → is_at_or_below o a ≡ true → is_at_parent a x t ≡ false
     apart o under low =
         let p = and_parts (is_at_or_below x a) (not (same_name x a)) (strictly_trans x o a under low) in
-        and_right (t == ds) (same_name x a) (not-true (same_name x a) p.1)
+        let other = not-true (same_name x a) p.1 in (λ j. (t == ds) && (other j && nat_lt 0 (length a))) ∙ and_right (t == ds) false refl
 
     at_highest : (o : Name) → IsHighest x o → zone_answer L a assume x t ≡ occluded_answer L a o
     at_highest o h =
@@ -292,7 +292,7 @@ module _ (L : List ZoneRecord) (a : Name) where
           | inr same ↦
               let free = free_same x h.cut same.0 ∙ h.free in
               let cut = cut_same L a x h.cut same.0 ∙ h.is_cut in
-              let here : IsHere L a x t = record { free = free; child = λ j. same.1 j && same_name x a } in
+              let here : IsHere L a x t = record { free = free; child = λ j. same.1 j && (same_name x a && nat_lt 0 (length a)) } in
               at_existing here (owner_exists x (cut_owns L a x cut) free) ∙ rw (cut, same.1) (ap Referral (same_count x h.cut same.0 ∙ sym h.count))
         ]
 

@@ -560,7 +560,7 @@ module _ (L : List ZoneRecord) (a : Name) (config : ChainConfig) (x : Name) (t :
     wildcard = λ i. cond (not (exists_over (owners_are L a config out leaves i) a wild)) (NameError (length zone_encloser))
         (expanded_alike (is_zone_cut L a wild) (is_zone_cut L a wild) (nsec3_lists L a config wild) (owns_type L a assume wild) (length zone_encloser) t refl
         (λ e. types_alike L a config wild t (wildcard_apart a x zone_encloser t encloser_low apart)
-        (signed_at t (is_zone_cut L a wild) (ap (λ c. c && not (t == ds)) e)))
+        (signed_at t (is_zone_cut L a wild) e))
         (types_alike L a config wild cname refl refl) i)
 
     hashed_inside_is : hashed_inside_answer L a config x t

@@ -233,6 +233,12 @@ pub record IsAbsent (L : List ZoneRecord) (a x : Name) (t n : ℕ) : Type 0 wher
 abbrev pub wildcard_of : List ZoneRecord → Name → Name → Name
 wildcard_of L a x = wildcard_below (encloser L a x)
 
+-- that wildcard owns records of the type, or is a zone cut and the type is not DS
+abbrev pub is_answered_below : List ZoneRecord → Name → Bool → Name → ℕ → Bool
+is_answered_below L a assume x t =
+    let w = wildcard_of L a x in
+    owns_type L a assume w t || (is_zone_cut L a w && not (t == ds))
+
 -- what holds if this is the zone's answer
 abbrev pub IsSo : List ZoneRecord → Name → Bool → Name → ℕ → Answer → Type 0
 IsSo L a assume x t OutsideZone = is_at_or_below x a ≡ false
@@ -253,14 +259,14 @@ IsSo L a assume x t NoData =
     × (owns_type L a assume x cname ≡ false) × (name_exists L a x ≡ true)
 IsSo L a assume x t (Wildcard n) =
     IsAbsent L a x t n × (name_exists L a (wildcard_of L a x) ≡ true)
-    × ((owns_type L a assume (wildcard_of L a x) t || is_zone_cut L a (wildcard_of L a x)) ≡ true)
+    × (is_answered_below L a assume x t ≡ true)
 IsSo L a assume x t (WildcardAlias n) =
     IsAbsent L a x t n × (name_exists L a (wildcard_of L a x) ≡ true)
-    × ((owns_type L a assume (wildcard_of L a x) t || is_zone_cut L a (wildcard_of L a x)) ≡ false)
+    × (is_answered_below L a assume x t ≡ false)
     × (owns_type L a assume (wildcard_of L a x) cname ≡ true)
 IsSo L a assume x t (WildcardNoData n) =
     IsAbsent L a x t n × (name_exists L a (wildcard_of L a x) ≡ true)
-    × ((owns_type L a assume (wildcard_of L a x) t || is_zone_cut L a (wildcard_of L a x)) ≡ false)
+    × (is_answered_below L a assume x t ≡ false)
     × (owns_type L a assume (wildcard_of L a x) cname ≡ false)
 IsSo L a assume x t (NameError n) =
     IsAbsent L a x t n × (name_exists L a (wildcard_of L a x) ≡ false)

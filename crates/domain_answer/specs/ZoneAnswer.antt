@@ -1,5 +1,5 @@
 -- What a zone says of a name and a type, by the types that names own.
-use Rattle.std.specs.{Prelude.{ℕ, Bool, not, ◌&&◌, ◌||◌, ◌==◌, if◌then◌else◌, true, List, [], ◌∷◌, Option, Some, None, length}, Option.option_or}
+use Rattle.std.specs.{Prelude.{ℕ, Bool, not, ◌&&◌, ◌||◌, ◌==◌, if◌then◌else◌, true, List, [], ◌∷◌, Option, Some, None, length, nat_lt}, Option.option_or}
 use Rattle.domain_octets.specs.Octets.{Octets}
 use Rattle.domain_base.specs.Types.{cname, ds, soa}
 use Rattle.domain_bitmap.specs.Blocks.{contains_type}
@@ -25,7 +25,7 @@ owned_answer at_cut owns n t =
 -- wildcard, has n labels
 abbrev pub expanded_answer : Bool → (ℕ → Bool) → ℕ → ℕ → Answer
 expanded_answer at_cut owns n t =
-    if owns t || at_cut then Wildcard n else
+    if owns t || (at_cut && not (t == ds)) then Wildcard n else
     (if owns cname then WildcardAlias n else WildcardNoData n)
 
 -- a zone cut whose record lists SOA is the apex of a child zone, and the record is from the child
@@ -94,9 +94,9 @@ abbrev pub inside_answer : List ZoneRecord → Name → Bool → Name → ℕ �
 inside_answer L a assume x t None = unoccluded_answer L a assume x t
 inside_answer L a assume x t (Some o) = occluded_answer L a o
 
--- DS records of the apex are in the parent zone
+-- DS records of the apex are in the parent zone; the root has none
 abbrev pub is_at_parent : Name → Name → ℕ → Bool
-is_at_parent a x t = (t == ds) && same_name x a
+is_at_parent a x t = (t == ds) && (same_name x a && nat_lt 0 (length a))
 
 -- the first case that holds
 abbrev pub zone_answer : List ZoneRecord → Name → Bool → Name → ℕ → Answer

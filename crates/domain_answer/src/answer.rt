@@ -8,7 +8,7 @@ pub enum Answer {
     /// The name is not at or below the apex.
     OutsideZone,
     /// The type is DS and the name is the apex: these records are the parent zone's (RFC 4035,
-    /// section 2.4).
+    /// section 2.4). The root has no parent.
     AtParent,
     /// The name is strictly below a zone cut, or is one and the type is not DS: the child zone
     /// answers (RFC 1034, section 4.3.2). The number counts the labels of the zone cut.
@@ -28,7 +28,7 @@ pub enum Answer {
     /// empty non-terminal (RFC 2308, section 2.2).
     NoData,
     /// The name does not exist, and the wildcard below its closest encloser owns records of the
-    /// type or is a zone cut (RFC 4592, section 3.3). The number counts the labels of the closest
+    /// type, or is a zone cut and the type is not DS (RFC 4592, section 3.3). The number counts the labels of the closest
     /// encloser, as does the Labels field in the signatures of the expanded records (RFC 4035,
     /// section 5.3.4).
     Wildcard(usize),

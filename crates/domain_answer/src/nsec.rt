@@ -14,11 +14,11 @@ use domain_checker::{NsecRr, is_at_cut, is_strictly_below};
 use domain_octets::Octets;
 use domain_record::Record;
 
-/// Returns whether the parent zone answers: the type is DS and the name is the apex.
+/// Returns whether the parent zone answers: the type is DS and the name is the apex, but not the root.
 pub fn is_at_parent<A: ToName, M: ToName>(apex: &A, name: &M, rtype: Rtype) -> bool
     ensures { result ≡ is_at_parent (A.labels apex.now) (M.labels name.now) rtype }
 {
-    rtype == Rtype::DS && name.name_eq(apex)
+    rtype == Rtype::DS && name.name_eq(apex) && apex.count_labels() > 0
 }
 
 /// Returns whether the owner is a zone cut or owns a DNAME record, and the name is at or below it.

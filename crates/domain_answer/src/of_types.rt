@@ -47,7 +47,7 @@ pub fn wildcard_types_answer<O: Octets>(
 ) -> Answer
     ensures { result ≡ wildcard_types_answer at_cut types.now count rtype }
 {
-    if types.contains(rtype) || at_cut {
+    if types.contains(rtype) || (at_cut && rtype != Rtype::DS) {
         return Answer::Wildcard(count);
     }
     if types.contains(Rtype::CNAME) {
