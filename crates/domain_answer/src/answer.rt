@@ -28,9 +28,9 @@ pub enum Answer {
     /// empty non-terminal (RFC 2308, section 2.2).
     NoData,
     /// The name does not exist, and the wildcard below its closest encloser owns records of the
-    /// type, or is a zone cut and the type is not DS (RFC 4592, section 3.3). The number counts the labels of the closest
-    /// encloser, as does the Labels field in the signatures of the expanded records (RFC 4035,
-    /// section 5.3.4).
+    /// type, or is a zone cut and the type is not DS (RFC 4592, section 3.3). The number counts the
+    /// labels of the closest encloser, as does the Labels field in the signatures of the expanded
+    /// records (RFC 4035, section 5.3.4).
     Wildcard(usize),
     /// The name does not exist, and the wildcard below its closest encloser owns a CNAME record,
     /// which answers in place of the type. The number counts the labels of the closest encloser.

@@ -14,7 +14,8 @@ use domain_checker::{NsecRr, is_at_cut, is_strictly_below};
 use domain_octets::Octets;
 use domain_record::Record;
 
-/// Returns whether the parent zone answers: the type is DS and the name is the apex, but not the root.
+/// Returns whether the parent zone answers: the type is DS and the name is the apex, but not the
+/// root.
 pub fn is_at_parent<A: ToName, M: ToName>(apex: &A, name: &M, rtype: Rtype) -> bool
     ensures { result ≡ is_at_parent (A.labels apex.now) (M.labels name.now) rtype }
 {
