@@ -25,7 +25,7 @@ use std::marker::Model;
 /// section 7.1). It lends one NSEC3 record at a time. Contracts see the links of its records, and
 /// the NSEC3PARAM record.
 ///
-/// It borrows the apex. Each name takes 48 octets. A name that owns records takes 8 octets more,
+/// It borrows the apex. Each name takes 44 octets. A name that owns records takes 8 octets more,
 /// and the octets of its types.
 #[derive(Drop)]
 pub struct Nsec3Chain<'a, O: Octets> {

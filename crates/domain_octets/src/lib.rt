@@ -9,7 +9,6 @@
 //! - [`push_words`] splits a line into its words.
 //! - [`Formatter`] collects the pieces of zone file text. [`ZonefileFmt`] is the trait of values
 //!   that a zone file shows in such pieces.
-//!   some.
 //! Other crates may rely on this. A contract sees each value as its list of octets. A call that
 //! fails leaves that list, or the position of a parser, unchanged.
 #![tactic(auto)]
