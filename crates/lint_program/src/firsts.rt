@@ -26,7 +26,7 @@ fn number_of(name: &Name<&[u8]>) -> u64
 /// Returns a group after the number of its name.
 #[tactic(auto, unfolding(crate::specs::Notes::by_number))]
 fn numbered<'z>(group: Group<'z>) -> (u64, Group<'z>)
-    ensures { result ≡ by_number group }
+    ensures { result ≡ by_number group.entry }
 {
     (number_of(&group.0), group)
 }
