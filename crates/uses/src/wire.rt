@@ -32,12 +32,7 @@ fn octets(
 
 /// Returns the octets of the NSEC3 chain of a zone of one class, and of the NSEC3PARAM record that
 /// the zone publishes.
-fn hashed_octets(
-    alloc: Global,
-    apex: &ZoneName,
-    zone: &Zone,
-    flags: u8,
-) -> Result<Vec<u8>, Error>
+fn hashed_octets(alloc: Global, apex: &ZoneName, zone: &Zone, flags: u8) -> Result<Vec<u8>, Error>
     requires { IsOneClass zone.now }
 {
     let salt = Nsec3Salt::empty(alloc);
