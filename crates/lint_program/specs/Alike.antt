@@ -28,7 +28,7 @@ IsRefusalBy answers given apex (Some p) number =
 abbrev pub alike_line : Pair → Octets
 alike_line p =
     codes "zone: " ++ (name_text p.0 ++ codes ".") ++ codes " and " ++ (name_text p.1 ++ codes ".")
-    ++ codes " share a hash"
+    ++ codes " hash alike"
 
 abbrev pub alike_text : List Pair → Octets
 alike_text = lines_of alike_line

@@ -87,7 +87,7 @@ fn write_alike<W: Write>(pairs: &[Alike<'_>], output: &mut W) -> io::Result<()>
     for pair in pairs {
         let later = pair.later.fmt_with_dot();
         let first = pair.first.fmt_with_dot();
-        writeln!(output, "zone: {later} and {first} share a hash")?;
+        writeln!(output, "zone: {later} and {first} hash alike")?;
     }
     Ok(())
 }

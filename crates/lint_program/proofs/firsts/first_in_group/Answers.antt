@@ -1,20 +1,12 @@
 use Rattle.std.proofs.{Common.arith, lemmas.{Grind.common_steps, List.Folds.find-append}}
 use Rattle.domain_octets.proofs.StdLemmas.{or_none}
-use Rattle.lint_program.{specs.Notes.by_number, proofs.NoteLemmas.{group_tied, same_first}}
+use Rattle.lint_program.proofs.NoteLemmas.{group_tied, same_first}
 use Rattle.lint_program.proofs.firsts.first_in_group.Goals as goal
 
 pub returns-in-Some : goal.returns-in-Some
 returns-in-Some c = λ before firsts. (
   grind (arith, common_steps, (firsts c.group_of-group.result)),
-  λ q. grind (
-    arith,
-    common_steps,
-    or_none,
-    find-append,
-    same_first,
-    (firsts q),
-    (firsts c.group_of-group.result),
-  ),
+  λ q. grind (arith, common_steps, or_none, find-append, same_first, (firsts q), (firsts c.group_of-group.result)),
 )
 
 pub returns : goal.returns
@@ -29,6 +21,6 @@ returns c = λ before firsts. (
     same_first,
     (firsts q),
     (firsts c.group_of-group.result),
-    (c.in_ok-insert.ensures.updates.0 (by_number q)),
+    (c.in_ok-insert.ensures.updates.0 q),
   ),
 )
