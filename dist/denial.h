@@ -57,7 +57,7 @@ enum denial_judgement {
     DENIAL_JUDGED_OUTSIDE_ZONE = 33,
 
     /* The type is DS and the name is the apex: the parent zone has these records (RFC 4035, section
-     * 2.4). This says nothing about the delegation. */
+     * 2.4). This says nothing about the delegation. The root has no parent. */
     DENIAL_JUDGED_AT_PARENT = 34,
 
     /* The name is strictly below a zone cut, or is one and the type is not DS: the child zone answers
@@ -82,8 +82,9 @@ enum denial_judgement {
      * of other types, or is an empty non-terminal. */
     DENIAL_JUDGED_NO_DATA = 40,
 
-    /* The name does not exist, and the wildcard below its closest encloser owns records of the type or
-     * is a zone cut (RFC 4592, section 3.3). With the labels of the closest encloser. */
+    /* The name does not exist, and the wildcard below its closest encloser owns records of the type, or
+     * is a zone cut and the type is not DS (RFC 4592, section 3.3). With the labels of the closest
+     * encloser. */
     DENIAL_JUDGED_WILDCARD = 41,
 
     /* The name does not exist, and the wildcard below its closest encloser owns a CNAME record. With the
@@ -444,8 +445,9 @@ uint32_t denial_nsec_chain(const uint8_t *apex, size_t apex_length,
  *
  *   iterations   the number of additional iterations. 0 is recommended (RFC 9276, section 3.1).
  *   salt         the octets of the salt. No salt is recommended.
- *   opt_out      whether delegations without DS are left out, and all records have the opt-out flag (RFC 5155,
- *                section 6).
+ *   opt_out      whether delegations without DS are left out, and all NSEC3 records have the opt-out flag (RFC
+ *                5155, section 6). The NSEC3PARAM record has flags 0, as a zone publishes it: name servers
+ *                ignore one with other flags, and send no NSEC3 record (section 4.1.2).
  *
  * The faults, in the order in which they are reported: DENIAL_BAD_APEX; DENIAL_LONG_SALT; DENIAL_BAD_RECORDS or
  * DENIAL_OTHER_CLASS, the one that comes first in the octets; DENIAL_NO_SINGLE_SOA; DENIAL_UNEQUAL_TTLS;
