@@ -1,11 +1,16 @@
 -- What is told is deserved, and what is deserved is told.
-use Rattle.std.proofs.Common.{arith, Some, ◌≡◌, ℕ, Bool, true, cond, ◌&&◌, ◌==◌, ◌+◌, ◌<◌, List, [], ◌∷◌, ◌++◌, refl, ap, sym, ◌∙◌, get_or, length, map, take}
+use Rattle.std.proofs.Common.{arith, Some, None, Option, ◌≡◌, ℕ, Bool, true, false, cond, ◌&&◌, ◌==◌, ◌+◌, ◌<◌, List, [], ◌∷◌, ◌++◌, refl, ap, sym, ◌∙◌}
+use Rattle.std.proofs.Common.{get_or, length, map, take}
 use Rattle.std.{proofs.{Common.{◌⊎◌, inl, inr, length-append}, lemmas.{Grind.common_steps, List.take_more, Bool.and_parts}}, specs.Ordering.{is_eq, nat_cmp}}
-use Rattle.std.specs.{Ordering.ordering_then, Cmp.unsigned_tied, List.{find, AllByRecursion}, declared.cmp.Ordering.Ordering}
-use Rattle.domain_names.specs.{Laws.{same_name_equiv, same_name_ties}, Name.{same_name, Name}}
+use Rattle.std.specs.{Ordering.ordering_then, Cmp.unsigned_tied, List.{find, fold, AllByRecursion}, declared.cmp.Ordering.Ordering}
+use Rattle.std.specs.Option.{option_map, option_or}
+use Rattle.std.specs.Hash as fed
+use Rattle.std.specs.Hash.FoldHasher as folding
+use Rattle.domain_names.specs.{Laws.{same_name_equiv, same_name_same, same_name_ties}, Name.{canonical_cmp, same_name, wire_of, Name}}
 use Rattle.domain_borrowed.specs.Data.{RawRecord}
-use Rattle.lint_program.specs.Notes.{group_cmp, earlier, first_in, group_of, is_group, Found, Group, IsToldOf, Mark, look_of, Deserves, HasMark, IsDeserved}
-use Rattle.lint_program.specs.{Notes.Found.{more, nothing}, declared.{looks.{Look.Look, Reason.Reason}, reading.Place.Place}}
+use Rattle.lint_program.specs.Notes.{by_number, group_cmp, number_of, earlier, first_in, group_of, is_group, with_record, Group}
+use Rattle.lint_program.specs.Notes.{Found, IsToldOf, Mark, look_of, Deserves, HasMark, IsDeserved}
+use Rattle.lint_program.specs.{Notes.Found.{more, nothing}, declared.{looks.{Look.Look, Placed.Placed, Reason.Reason}, reading.Place.Place}}
 use Rattle.domain_zone.proofs.WalkLemmas.{all_both, weaker}
 
 -- ---- The first record of each group, as records are taken in one by one.
@@ -15,11 +20,28 @@ use Rattle.domain_zone.proofs.WalkLemmas.{all_both, weaker}
 both_eq : (o p : Ordering) → is_eq (ordering_then o p) ≡ (is_eq o && is_eq p)
 both_eq o p = grind (arith, common_steps)
 
+-- names that are the same have one number
+one_number : (x y : Name) → same_name x y ≡ true → number_of x ≡ number_of y
+unfolding number_of
+one_number x y e =
+    ap (λ labels. folding.finish (fold folding.write folding.initial (fed.slice fed.u8 (wire_of labels)))) ((same_name_same x y).0 e)
+
 -- the order does not tell groups apart that are one
-pub group_tied : (g h : Group) → is_eq (group_cmp g h) ≡ is_group g h
-group_tied g h =
+groups_tied : (g h : Group) → is_eq (ordering_then (canonical_cmp g.0 h.0) (nat_cmp g.1 h.1)) ≡ is_group g h
+groups_tied g h =
     both_eq _ _
     ∙ ap (λ b. b && is_eq (nat_cmp g.1 h.1)) (sym (same_name_ties g.0 h.0)) ∙ ap (λ b. same_name g.0 h.0 && b) (unsigned_tied g.1 h.1)
+
+-- nor do their numbers
+numbers_tied : (g h : Group) → (number_of g.0 == number_of h.0) && is_group g h ≡ is_group g h
+numbers_tied g h = grind (arith, common_steps, (one_number g.0 h.0))
+
+pub group_tied : (g h : Group) → is_eq (group_cmp (by_number g) (by_number h)) ≡ is_group g h
+unfolding by_number
+group_tied g h =
+    both_eq _ _
+    ∙ ap (λ b. b && is_eq (ordering_then (canonical_cmp g.0 h.0) (nat_cmp g.1 h.1))) (unsigned_tied (number_of g.0) (number_of h.0))
+    ∙ ap (λ b. (number_of g.0 == number_of h.0) && b) (groups_tied g h) ∙ numbers_tied g h
 
 -- one group is another where it is one that is
 group_congr : (g k q : Group) → is_group k q ≡ true → is_group g k ≡ is_group g q
@@ -35,6 +57,30 @@ first_alike t u (s ∷ rs) h = ap (λ b. cond b (Some s) (find t rs)) (h s) ∙ 
 
 pub same_first : (l : Look) (a : Name) (before : List RawRecord) (k q : Group) → is_group k q ≡ true → first_in l a before q ≡ first_in l a before k
 same_first l a before k q e = sym (first_alike _ _ before (λ s. group_congr (group_of l a s) k q e))
+
+-- with one record more
+find_more : (p : RawRecord → Bool) (xs : List RawRecord) (x : RawRecord) → find p (xs ++ x ∷ []) ≡ option_or (find p xs) (cond (p x) (Some x) None)
+find_more p [] x = refl
+find_more p (y ∷ xs) x = grind (arith, common_steps, (find_more p xs x))
+
+pub first_more : (l : Look) (a : Name) (before : List RawRecord) (r : RawRecord) (q : Group)
+    → first_in l a (before ++ r ∷ []) q ≡ with_record (first_in l a before) (group_of l a r) r q
+first_more l a before r q = find_more (λ s. is_group (group_of l a s) q) before r
+
+-- a record is no more than one of a group that has one
+pub kept_with : (first : Group → Option RawRecord) (g q : Group) (r s : RawRecord) → (is_group g q ≡ true → first q ≡ first g) → Some s ≡ first g
+    → first q ≡ with_record first g r q
+kept_with first g q r s same is = grind (arith, common_steps)
+
+-- and that of a group that has none
+pub added_with : (first : Group → Option RawRecord) (g q : Group) (r : RawRecord) → (is_group g q ≡ true → first q ≡ first g) → None ≡ first g
+    → cond (is_group g q) (Some r) (first q) ≡ with_record first g r q
+added_with first g q r same none = grind (arith, common_steps)
+
+pub record_cond : (b : Bool) (p : Placed) (o : Option Placed)
+    → option_map (λ p. p.borrowed.now) (cond b (Some p) o) ≡ cond b (Some p.borrowed.now) (option_map (λ p. p.borrowed.now) o)
+record_cond true p o = refl
+record_cond false p o = refl
 
 -- ---- places
 

@@ -1,9 +1,9 @@
 -- The notes about the records that were read: one for each record that deserves it, and no other.
 use Rattle.std.specs.Prelude.{◌≡◌, ℕ, ◌-◌, ◌<◌, ◌==◌, Bool, not, ◌||◌, [], ◌∷◌, drop, length, nat_lt, slice_index, if◌then◌else◌, codes, ◌≢◌, ◌⊎◌, true, false}
-use Rattle.std.specs.{Prelude.{◌&&◌, ◌+◌, ◌≤◌, List, ◌++◌, Option, Some, None, IsSome, MatchOption, option_map}, List.{find, list_any}, BTreeMap.BTreeMap}
-use Rattle.std.specs.{Ordering.{nat_cmp, ordering_then}, declared.cmp.Ordering.Ordering}
+use Rattle.std.specs.{Prelude.{◌&&◌, ◌+◌, ◌≤◌, List, ◌++◌, Option, Some, None, IsSome, MatchOption, option_map}, List.{find, fold, list_any}, BTreeMap.BTreeMap}
+use Rattle.std.specs.{Option.option_or, Ordering.{nat_cmp, ordering_then}, declared.cmp.Ordering.Ordering}
 use Rattle.domain_octets.specs.Octets.{Octets}
-use Rattle.domain_names.specs.{Wire.IsWire, Name.{is_at_or_below, same_name, Name, canonical_cmp}}
+use Rattle.domain_names.specs.{Wire.IsWire, Name.{is_at_or_below, lowered, same_name, wire_of, Name, canonical_cmp}}
 use Rattle.lint_program.specs.declared.odd.Shape.{Shape, TheVariants.{OneName, Texts, LongAddress, Service, Certificate, Issuers, Whatever}}
 use Rattle.lint_program.specs.declared.looks.Reason.{Reason, TheVariants.{NoSoa, SecondSoa, StraySoa, OtherClass, OtherTtl, Outside, BesideAlias, OddData}}
 use Rattle.lint_program.specs.declared.{looks.{Reason.TheVariants.Parameters, Look.Look, Placed.Placed}, notes.Note.Note}
@@ -11,6 +11,8 @@ use Rattle.domain_borrowed.specs.Data.{RawRecord}
 use Rattle.domain_base.specs.Types as rtypes
 use Rattle.lint_program.specs.declared.looks.Look.TheVariants as look
 use Rattle.std.specs.BTreeMap as tree
+use Rattle.std.specs.Hash as fed
+use Rattle.std.specs.Hash.FoldHasher as folding
 
 -- ---- Octets that encode data of their type, for types whose data are not read.
 
@@ -257,12 +259,38 @@ pub record HasMark (marks : List Mark) (number : ℕ) : Type 0 where
 
 -- ---- The first record of each group, in a map.
 
--- the order of groups in the map
-abbrev pub group_cmp : Group → Group → Ordering
-group_cmp g h = ordering_then (canonical_cmp g.0 h.0) (nat_cmp g.1 h.1)
+-- the number of a name, by which names are told apart fast: the hash of its octets in lower case;
+-- two names may have the same number
+unfoldable pub number_of : Name → ℕ
+number_of name =
+    folding.finish (fold folding.write folding.initial (fed.slice fed.u8 (wire_of (lowered name))))
+
+-- a group after the number of its name
+unfoldable pub by_number : Group → ℕ × Group
+by_number g = (number_of g.0, g)
+
+-- the order of numbered groups in the map
+abbrev pub group_cmp : ℕ × Group → ℕ × Group → Ordering
+group_cmp g h =
+    ordering_then (nat_cmp g.0 h.0)
+    (ordering_then (canonical_cmp g.1.0 h.1.0) (nat_cmp g.1.1 h.1.1))
+
+-- the record that the map has for a group
+unfoldable pub record_of : BTreeMap (ℕ × Group) Placed → Group → Option RawRecord
+record_of firsts g = option_map (λ p. p.borrowed.now) (tree.get group_cmp firsts (by_number g))
+
+-- the map has these records, each for its group
+abbrev pub AreFirstsBy : (Group → Option RawRecord) → BTreeMap (ℕ × Group) Placed → Type 0
+AreFirstsBy first firsts = (g : Group) → record_of firsts g ≡ first g
+
+-- groups that are the same have one record
+abbrev pub AreOfGroups : (Group → Option RawRecord) → Type 0
+AreOfGroups first = (g q : Group) → is_group g q ≡ true → first q ≡ first g
+
+-- the same with one record more, which is that of its group if the group has none before it
+abbrev pub with_record : (Group → Option RawRecord) → Group → RawRecord → Group → Option RawRecord
+with_record first g r q = option_or (first q) (if is_group g q then Some r else None)
 
 -- the map has the first of these records for each group
-abbrev pub AreFirsts : Look → Name → List RawRecord → BTreeMap Group Placed → Type 0
-AreFirsts l a before firsts =
-    (g : Group) → option_map (λ p. p.borrowed.now) (tree.get group_cmp firsts g)
-    ≡ first_in l a before g
+abbrev pub AreFirsts : Look → Name → List RawRecord → BTreeMap (ℕ × Group) Placed → Type 0
+AreFirsts l a before firsts = AreFirstsBy (first_in l a before) firsts

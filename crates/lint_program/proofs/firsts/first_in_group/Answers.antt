@@ -1,26 +1,14 @@
-use Rattle.std.proofs.{Common.arith, lemmas.{Grind.common_steps, List.Folds.find-append}}
-use Rattle.domain_octets.proofs.StdLemmas.{or_none}
-use Rattle.lint_program.proofs.NoteLemmas.{group_tied, same_first}
+use Rattle.std.proofs.Common.{ap, sym, ◌∙◌}
+use Rattle.lint_program.{specs.Notes.{first_in, with_record}, proofs.NoteLemmas.{first_more, same_first}}
 use Rattle.lint_program.proofs.firsts.first_in_group.Goals as goal
 
-pub returns-in-Some : goal.returns-in-Some
-returns-in-Some c = λ before firsts. (
-  grind (arith, common_steps, (firsts c.group_of-group.result)),
-  λ q. grind (arith, common_steps, or_none, find-append, same_first, (firsts q), (firsts c.group_of-group.result)),
-)
-
 pub returns : goal.returns
-returns c = λ before firsts. (
-  grind (arith, common_steps, (firsts c.group_of-group.result)),
-  λ q. grind (
-    arith,
-    common_steps,
-    group_tied,
-    or_none,
-    find-append,
-    same_first,
-    (firsts q),
-    (firsts c.group_of-group.result),
-    (c.in_ok-insert.ensures.updates.0 q),
-  ),
-)
+returns c = λ before firsts.
+    let look = c.args.look in
+    let apex = c.args.apex.now in
+    let r = c.args.placed.borrowed.now in
+    let grouped = c.group_of-group.ensures in
+    let both = c.in_ok-take_in.ensures (first_in look apex before) (same_first look apex before) firsts in (
+      both.0 ∙ ap (first_in look apex before) grouped,
+      λ q. both.1 q ∙ ap (λ g. with_record (first_in look apex before) g r q) grouped ∙ sym (first_more look apex before r q),
+    )
