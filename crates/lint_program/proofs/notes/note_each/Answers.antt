@@ -1,9 +1,10 @@
 use Rattle.std.proofs.Common.{◌≡◌, ◌∙◌, ◌<◌, ◌++◌, [], ap, append-nil, append_assoc, arith, get_or, length, map, sym, take}
 use Rattle.std.proofs.lemmas.{Grind.common_steps, List.take_more}
-use Rattle.lint_program.{specs.Notes.{mark_of, Found.nothing}, proofs.NoteLemmas.found_more}
+use Rattle.lint_program.{specs.Notes.{mark_of, record_of, Found.nothing}, proofs.NoteLemmas.found_more}
 use Rattle.lint_program.proofs.notes.note_each.Goals as goal
 
 pub loop-i-init : goal.loop-i-init
+unfolding record_of
 loop-i-init c = (λ g. grind (arith, common_steps), ([], nothing c.args.look c.args.apex.now, sym (append-nil _)))
 
 pub loop-i-preserved : goal.loop-i-preserved
