@@ -30,7 +30,7 @@ static void read_question(struct input *input, const char *line)
     input->rtype = ldns_get_rr_type_by_name(rtype);
 }
 
-/* Writes the NSEC3PARAM record that an NSEC3 record tells, for calls that want one: a response has none. */
+/* Writes an NSEC3PARAM record with the parameters of an NSEC3 record, for calls that take one: a response has none. */
 static void write_param(struct input *input, const ldns_rdf *apex, const ldns_rr *nsec3)
 {
     uint8_t salt_length = ldns_nsec3_salt_length(nsec3);

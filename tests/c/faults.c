@@ -456,7 +456,7 @@ static void try_expansions(void)
     put_salted_param(&opted, "example.", 12);
     put_salted_nsec3(&opted, closer, 1, next, at_host);
     ask(judge_expansion, "example.", "a.z.w.example.", 2, &opted, DENIAL_JUDGED_MAY_BE_UNSIGNED, 2);
-    /* One that matches the next closer name stands against one that covers it. */
+    /* A record that matches the next closer name counts before one that covers it. */
     both = records;
     put_salted_nsec3(&both, of_closer, 0, next, at_host);
     ask(judge_expansion, "example.", "a.z.w.example.", 2, &both, DENIAL_JUDGED_NOT_PROVEN, 0);
@@ -469,7 +469,7 @@ static void try_expansions(void)
     limit = 0;
 }
 
-/* NSEC3 records without an NSEC3PARAM record: the first that is not passed over tells the parameters. */
+/* NSEC3 records without an NSEC3PARAM record: the first that is not ignored gives the parameters. */
 static void try_alone(void)
 {
     static const char low[20] = {0}, high[20] = "\377\377\377\377\377\377\377\377\377\377"
@@ -497,7 +497,7 @@ static void try_alone(void)
     ask(judge_alone, "a.", "x.a.", A, &unknown, DENIAL_JUDGED_NAME_ERROR, 1);
     ask(denial_check_nsec3_alone, "a.", "x.a.", A, &unknown, DENIAL_NO_NAME, 1);
     ask(expansion_alone, "a.", "x.a.", 1, &unknown, DENIAL_JUDGED_NO_CLOSER_NAME, 1);
-    /* The first tells 12 iterations and a salt, so that the others are passed over. */
+    /* The first has 12 iterations and a salt, so the others are ignored. */
     put_salted_nsec3(&other, zero_owner, 0, high, nothing);
     put(&other, chain.at, chain.length);
     ask(judge_alone, "a.", "a.", SOA, &other, DENIAL_JUDGED_TOO_MANY_ITERATIONS, 0);
@@ -849,7 +849,7 @@ static void try_chains(void)
         put_record(&other, "b.a.", A, IN, &host);
         other.at[other.length - host.length - 3]++;
         try_chain(is_hashed, &apex, &other, 0, 1024, DENIAL_UNEQUAL_TTLS, zone.length);
-        /* Of two owners with unequal TTLs the first in canonical order is told, wherever it stands. */
+        /* Of two owners with unequal TTLs the first in canonical order is reported, in any order of records. */
         other = zone;
         put_record(&other, "c.a.", A, IN, &host);
         host.at[3]++;

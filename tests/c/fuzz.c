@@ -128,7 +128,7 @@ static int is_answer(uint32_t answer, int call)
     return answer <= DENIAL_NO_NAME && (is_hashed || answer != DENIAL_OPT_OUT);
 }
 
-/* What is handed in for the field Labels, where a type is asked for by other calls. */
+/* What is passed as the field Labels, where other calls take a type. */
 static uint8_t labels_of(uint16_t rtype)
 {
     return (uint8_t)(rtype % 8);
@@ -262,7 +262,7 @@ static void make_chain(int is_hashed, const uint8_t *at[3])
     exit(1);
 }
 
-/* Asks which names of the NSEC3 chain hash alike: by SHA-1 none do, or what is handed in has a fault that the
+/* Asks which names of the NSEC3 chain hash alike: by SHA-1 none do, or what is passed has a fault that the
  * chain has too. The octets of the name are the salt. */
 static void ask_collision(const uint8_t *at[3])
 {
