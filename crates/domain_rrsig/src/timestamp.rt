@@ -22,7 +22,7 @@ const _: () = prove!(Timestamp::COMPOSE_LEN == Serial::COMPOSE_LEN);
 /// The time at which the validity of a signature begins or ends: seconds since the start of 1970,
 /// without leap seconds, modulo 2^32 (RFC 4034, section 3.1.5).
 ///
-/// A time stamp stands for many times. `to_system_time` returns the one that is meant at a
+/// Many times have the same time stamp. `to_system_time` returns the one that is meant at a
 /// reference time. Time stamps are ordered in a circle, as serial numbers are (RFC 1982), so they
 /// have no comparison operators.
 #[derive(Clone, Copy, Debug, PartialEq)]
