@@ -1,9 +1,9 @@
-//! The program `denial`: reads the records of a zone from standard input, one a line, and prints
-//! the chain that denies what the zone does not hold; or reads records of such a chain, and prints
-//! what they prove of a name and a type.
+//! The program `denial`. It reads the records of a zone from standard input, one per line, and
+//! prints the chain that denies what the zone does not hold. Or it reads records of such a chain,
+//! and prints what they prove about a name and a type.
 //!
-//! The work is done by `run_denial` of `denial_program`, which is generic over its reader, its
-//! writer and its hasher. `main` hands in those of the process.
+//! `run_denial` of `denial_program` does the work. It is generic over its reader, its writer and
+//! its hasher. `main` passes those of the process.
 #![tactic(auto)]
 
 mod progress;
@@ -14,7 +14,7 @@ use std::io;
 use std::io::{BufReader, BufWriter};
 use std::process::ExitCode;
 
-/// The run over the words after the program's name, and the process's own input and output.
+/// Runs the program with the arguments after its name, and with the process's own input and output.
 fn start(rt: &HostRuntime) -> Result<(), DenialFault> {
     let alloc = rt.alloc();
     let words = words_of(rt)?;

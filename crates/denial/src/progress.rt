@@ -1,4 +1,4 @@
-//! How far hashing is, told to who waits at a terminal.
+//! Reports on the progress of hashing, for a user who waits at a terminal.
 ghost use Rattle.domain_sha1.specs.Iterated.{sha1_answer};
 
 use domain_base::Nsec3HashAlgorithm;
@@ -9,23 +9,23 @@ use std::cell::Cell;
 use std::io::IsTerminal;
 use std::time::Clock;
 
-/// Seconds from the first name to the first line, and from line to line.
+/// The seconds from the first name to the first line, and from one line to the next.
 const SECONDS: u64 = 10;
 
-/// Hashes by SHA-1, and where standard error is a terminal, says there every ten seconds how many
-/// names it has hashed. What it answers does not depend on that.
+/// A SHA-1 hasher that reports its progress. If standard error is a terminal, it prints there every
+/// ten seconds how many names it has hashed. Its hashes do not depend on that.
 #[derive(Drop)]
 pub struct TellingHasher<'r> {
     rt: &'r HostRuntime,
     is_terminal: bool,
-    /// How many names it has hashed.
+    /// The number of names that it has hashed.
     hashed: Cell<u64>,
-    /// The second, by the clock, of the next line. 0 before the first name.
+    /// The second of the next line, by the clock, or 0 before the first name.
     next: Cell<u64>,
 }
 
 impl<'r> TellingHasher<'r> {
-    /// A hasher that tells standard error of this process.
+    /// Returns a hasher that reports to standard error of this process.
     pub fn new(rt: &'r HostRuntime) -> Self {
         TellingHasher {
             rt,
@@ -35,7 +35,7 @@ impl<'r> TellingHasher<'r> {
         }
     }
 
-    /// Counts names, and says how many they are where it is time.
+    /// Counts `count` more names, and prints how many it has hashed if it is time.
     fn tell(&self, count: u64) {
         let hashed = self.hashed.get().saturating_add(count);
         self.hashed.set(hashed);

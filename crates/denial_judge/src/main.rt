@@ -1,9 +1,9 @@
-//! The program that `denial judge` and `denial answer` are: reads records of an NSEC or NSEC3 chain
-//! from standard input, one a line, and prints what they prove as a whole answer to a question
-//! about a name and a type, and the records that are asked for.
+//! The program behind `denial judge` and `denial answer`. It reads records of an NSEC or NSEC3
+//! chain from standard input, one per line. It prints what they prove as a whole answer to a
+//! question about a name and a type. It also prints the requested records.
 //!
-//! The work is done by `run_judge` of `judge_program`, which is generic over its reader, its writer
-//! and its hasher. `main` hands in those of the process.
+//! `run_judge` of `judge_program` does the work. It is generic over its reader, its writer and its
+//! hasher. `main` passes those of the process.
 #![tactic(auto)]
 
 use denial_program::{BUFFER, DenialFault, words_of};
@@ -13,7 +13,7 @@ use std::io;
 use std::io::{BufReader, BufWriter};
 use std::process::ExitCode;
 
-/// The run over the words after the program's name, and the process's own input and output.
+/// Runs the program with the arguments after its name, and with the process's own input and output.
 fn start(rt: &HostRuntime) -> Result<(), DenialFault> {
     let alloc = rt.alloc();
     let words = words_of(rt)?;

@@ -1,8 +1,9 @@
-//! The program that `denial lint` is: reads the records of a zone from standard input, one a line,
-//! and prints what is wrong with each line that is no record, and with the records as a zone.
+//! The program behind `denial lint`. It reads the records of a zone from standard input, one per
+//! line. It prints what is wrong with each line that is not a record, and with the records as a
+//! zone.
 //!
-//! The work is done by `run_lint` of `lint_program`, which is generic over its reader, its writer
-//! and its hasher. `main` hands in those of the process, and SHA-1.
+//! `run_lint` of `lint_program` does the work. It is generic over its reader, its writer and its
+//! hasher. `main` passes those of the process, and SHA-1.
 #![tactic(auto)]
 
 use denial_program::{BUFFER, DenialFault, words_of};
@@ -12,7 +13,7 @@ use std::io;
 use std::io::{BufReader, BufWriter};
 use std::process::ExitCode;
 
-/// The run over the words after the program's name, and the process's own input and output.
+/// Runs the program with the arguments after its name, and with the process's own input and output.
 fn start(rt: &HostRuntime) -> Result<Outcome, DenialFault> {
     let alloc = rt.alloc();
     let words = words_of(rt)?;

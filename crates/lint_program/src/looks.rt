@@ -69,7 +69,7 @@ impl Reason {
 pub struct Placed<'z, 'a> {
     /// The record.
     pub borrowed: &'z BorrowedRecord<'a>,
-    /// Where it stands.
+    /// Its place in the input.
     pub place: Place,
 }
 

@@ -1,5 +1,5 @@
-//! Worked values of chains, of what their records prove, and of which a server answers with: each
-//! line of the input is a vector, answered by what the library makes of it.
+//! Worked values of chains, of what their records prove, and of the records that a server answers
+//! with. Each line of the input is a vector. Its answer is what the library makes of it.
 #![tactic(auto)]
 
 /// Adds the records that a chain lends, each on a line, and none past the last.
@@ -14,7 +14,7 @@ macro_rules! say_lent {
     };
 }
 
-/// Adds the owners of the records of a chain that were picked, each after its label.
+/// Adds the owners of the records that were picked from a chain, each after its label.
 macro_rules! say_owners {
     ($answers:ident, $chain:ident, $denial:ident: $($label:literal: $place:ident),*) => {{
         $(if let Some(listed) = $chain.lend($denial.$place.unwrap_or($chain.len())) {
@@ -38,7 +38,7 @@ use std::io;
 use table::make_table;
 use worked_lines::*;
 
-/// Vectors of chains.
+/// The vectors on chains.
 struct Chains;
 
 impl Vectors for Chains {

@@ -1,5 +1,6 @@
-//! NSEC chains (RFC 4034, section 4; RFC 4035, section 2.3; RFC 9077), what their records prove
-//! (RFC 4035, section 5.4; RFC 4592), and which a server answers with (RFC 4035, section 3.1.3).
+//! NSEC chains (RFC 4034, section 4; RFC 4035, section 2.3; RFC 9077). The vectors also ask what
+//! their records prove (RFC 4035, section 5.4; RFC 4592), and which of them a server answers with
+//! (RFC 4035, section 3.1.3).
 use super::*;
 
 /// NSEC records.
@@ -8,7 +9,7 @@ type Nsecs = Vec<Typed<Nsec<Vec<u8>, OwnName>>>;
 /// A chain that lends its records.
 type Chain<'a> = NsecChain<'a, OwnName>;
 
-/// What a form asks of the generator.
+/// Returns the configuration of the generator for a form.
 fn config(form: &str) -> GenerateNsecConfig {
     match form {
         "dnskey" | "any" | "borrowed" => GenerateNsecConfig::new(),
@@ -20,7 +21,7 @@ fn config(form: &str) -> GenerateNsecConfig {
     }
 }
 
-/// The chain of a zone, or why it has none.
+/// Adds the chain of a zone, or why it has none.
 fn made(form: &str, apex: &OwnName, words: &[&str], answers: &mut Answers) -> Answered {
     let zone = answers.zone(words)?;
     let groups = zone.owner_rrs();
@@ -31,7 +32,7 @@ fn made(form: &str, apex: &OwnName, words: &[&str], answers: &mut Answers) -> An
     answers.show_records(nsecs.as_slice())
 }
 
-/// What is picked of a chain to answer each name and type with.
+/// Adds what is picked from a chain to answer each name and type.
 fn deny(apex: &OwnName, chain: &Chain<'_>, asked: &[&str], answers: &mut Answers) -> Answered {
     let denier = answers.ok(NsecDenier::new(answers.alloc, chain))?;
     for words in asked.split(is_slash) {
@@ -46,7 +47,7 @@ fn deny(apex: &OwnName, chain: &Chain<'_>, asked: &[&str], answers: &mut Answers
     Some(())
 }
 
-/// The records that the chain of a zone lends: all, or those that answer questions.
+/// Adds the records that the chain of a zone lends: all, or those that answer questions.
 fn lent(form: &str, apex: &OwnName, words: &[&str], answers: &mut Answers) -> Answered {
     let (listed, asked) = halves(words, ":");
     let zone = answers.zone(listed)?;
@@ -65,7 +66,7 @@ fn lent(form: &str, apex: &OwnName, words: &[&str], answers: &mut Answers) -> An
     Some(())
 }
 
-/// What NSEC records prove of a name and a type, where they come one by one.
+/// Returns what NSEC records prove about a name and a type if they are added one by one.
 fn one_by_one(
     apex: &OwnName,
     chain: &[Typed<Nsec<Vec<u8>, OwnName>>],
@@ -79,7 +80,7 @@ fn one_by_one(
     check.verdict()
 }
 
-/// What NSEC records prove of each name and type, or what they answer as a whole.
+/// Adds what NSEC records prove about each name and type, or what they answer as a whole.
 fn judge(form: &str, apex: &OwnName, words: &[&str], answers: &mut Answers) -> Answered {
     let (listed, asked) = halves(words, ":");
     let chain = records_of!(answers, Nsec, listed);
@@ -99,8 +100,8 @@ fn judge(form: &str, apex: &OwnName, words: &[&str], answers: &mut Answers) -> A
     Some(())
 }
 
-/// Answers a vector on chains: a form, the apex, after a colon records, and after another, where
-/// something is asked, names with types, with `/` between them.
+/// Answers a vector on chains. It has a form, the apex, and records after a colon. If it asks
+/// something, names with types follow after another colon, with `/` between them.
 pub fn answer(form: &str, words: &[&str], answers: &mut Answers) -> Answered {
     let apex = &answers.name(word(words, 0))?;
     let words = words.get(2..).unwrap_or_default();

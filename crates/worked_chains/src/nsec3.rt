@@ -1,5 +1,6 @@
-//! NSEC3 chains of small zones (RFC 5155, section 7.1), what their records prove and answer as a
-//! whole (RFC 5155, section 8), and which of them a server answers with (RFC 5155, section 7.2).
+//! NSEC3 chains of small zones (RFC 5155, section 7.1). The vectors also ask what their records
+//! prove and answer as a whole (RFC 5155, section 8), and which of them a server answers with (RFC
+//! 5155, section 7.2).
 use super::*;
 use std::fmt::Debug;
 
@@ -9,24 +10,24 @@ type Made = Nsec3Records<OwnName, Vec<u8>>;
 /// A chain that lends its records.
 type Chain<'a> = Nsec3Chain<'a, Vec<u8>>;
 
-/// How the chains here are made.
+/// The configuration of the chains here.
 type Config = GenerateNsec3Config<Vec<u8>, DefaultSorter>;
 
-/// How denial is made.
+/// The configuration of denial.
 type Denial = DenialConfig<Vec<u8>, DefaultSorter>;
 
-/// The greatest number of iterations that answers are asked for with.
+/// The greatest number of iterations that is allowed for answers.
 const MOST_ITERATIONS: u16 = 12;
 
-/// A chain, each record on a line, or why there is none.
+/// Adds a chain, each record on a line, or why there is none.
 fn show(made: Result<Made, ChainError>, answers: &mut Answers) -> Answered {
     let made = answers.ok(made)?;
     answers.show_records(made.nsec3s.as_slice());
     answers.show("record", &made.nsec3param)
 }
 
-/// What records say that are read for each name, and a line more where they say another thing when
-/// they are read once.
+/// Adds what records say if they are read for each name. If they say something else when they are
+/// read once, adds a line about it.
 fn say_both<T: Debug + PartialEq, E: Debug + PartialEq>(
     label: &str,
     each: &Result<T, E>,
@@ -39,7 +40,7 @@ fn say_both<T: Debug + PartialEq, E: Debug + PartialEq>(
     answers.debug_made(label, each)
 }
 
-/// Whether a copy of how denial is made is equal to it.
+/// Adds whether a copy of a configuration of denial is equal to it.
 fn copied(label: &str, of: &Denial, answers: &mut Answers) -> Answered {
     match of.clone() {
         Ok(copy) => answers.show(label, &(copy == *of)),
@@ -47,7 +48,7 @@ fn copied(label: &str, of: &Denial, answers: &mut Answers) -> Answered {
     }
 }
 
-/// Whether the places of an answer's records are those that are picked, each once.
+/// Returns whether the places of an answer's records are those that are picked, each once.
 fn are_places(denial: &Nsec3Denial) -> bool {
     let (first, second, third) = (
         denial.of_encloser,
@@ -59,7 +60,7 @@ fn are_places(denial: &Nsec3Denial) -> bool {
     denial.places() == [first, second, if is_new { third } else { None }]
 }
 
-/// The hash of each record of a chain, the name that it makes, and none past the last.
+/// Adds the hash of each record of a chain and the name that it makes, and none past the last.
 fn hashes(chain: &Chain<'_>, answers: &mut Answers) {
     for place in 0..=chain.len() {
         answers.octets("hash", &chain.hash_at(place).unwrap_or_default());
@@ -69,12 +70,13 @@ fn hashes(chain: &Chain<'_>, answers: &mut Answers) {
     }
 }
 
-/// What the chain of a zone is made by: its apex, what is asked of the generator, and a hasher.
+/// What the chain of a zone is made from: its apex, the configuration of the generator, and a
+/// hasher.
 #[derive(Drop)]
 struct Hashing<'a, H>(&'a OwnName, &'a Config, &'a H);
 
 impl<H: Nsec3Hasher> Hashing<'_, H> {
-    /// The owner of the NSEC3 record of a name, or why there is none.
+    /// Adds the owner of the NSEC3 record of a name, or why there is none.
     fn owner(&self, word: &str, answers: &mut Answers) -> Answered {
         let (name, params) = (answers.name(word)?, &self.1.params);
         let owner = mk_hashed_nsec3_owner_name(
@@ -89,7 +91,7 @@ impl<H: Nsec3Hasher> Hashing<'_, H> {
         answers.show_made("owner", &owner)
     }
 
-    /// Why there is no chain and no owner of a record, each by its own error.
+    /// Adds why there is no chain, and why NSEC3 records have no owner, each with its own error.
     fn faults(&self, words: &[&str], answers: &mut Answers) -> Answered {
         let (alloc, zone) = (answers.alloc, answers.zone(words)?);
         let groups = zone.owner_rrs();
@@ -105,7 +107,7 @@ impl<H: Nsec3Hasher> Hashing<'_, H> {
         Some(())
     }
 
-    /// Why the NSEC3 record of a name has no owner.
+    /// Adds why the NSEC3 record of a name has no owner.
     fn owner_fault(&self, name: &OwnName, answers: &mut Answers) -> Answered {
         let params = &self.1.params;
         let owner: Result<OwnName, Nsec3HashError> = mk_hashed_nsec3_owner_name(
@@ -120,7 +122,7 @@ impl<H: Nsec3Hasher> Hashing<'_, H> {
         answers.fault("Nsec3HashError", &owner)
     }
 
-    /// Whether copies of how denial is made are equal to it.
+    /// Adds whether copies of configurations of denial are equal to them.
     fn copies(&self, answers: &mut Answers) -> Answered {
         copied("already present", &Denial::AlreadyPresent, answers);
         copied("NSEC", &Denial::default(answers.alloc), answers);
@@ -131,14 +133,14 @@ impl<H: Nsec3Hasher> Hashing<'_, H> {
         )
     }
 
-    /// The chain of records in any order, or why they have none.
+    /// Adds the chain of records in any order, or why they have none.
     fn of_any_order(&self, words: &[&str], answers: &mut Answers) -> Answered {
         let (alloc, records) = (answers.alloc, answers.records(words)?);
         let made = generate_nsec3s_of_records(alloc, self.0, records, self.1, self.2);
         show(made, answers)
     }
 
-    /// The chain of sorted records, made all at once by a sorter with memory or without.
+    /// Adds the chain of sorted records, made all at once. Its sorter has memory or has none.
     fn made(&self, form: &str, words: &[&str], answers: &mut Answers) -> Answered {
         let (alloc, zone) = (answers.alloc, answers.zone(words)?);
         let groups = zone.owner_rrs();
@@ -154,7 +156,7 @@ impl<H: Nsec3Hasher> Hashing<'_, H> {
         show(made.map_err(ChainError::from), answers)
     }
 
-    /// What is picked of a chain to answer each name and type with.
+    /// Adds what is picked from a chain to answer each name and type.
     fn deny(&self, chain: &Chain<'_>, asked: &[&str], answers: &mut Answers) -> Answered {
         for words in asked.split(is_slash) {
             let (name, rtype) = answers.question(words)?;
@@ -173,7 +175,8 @@ impl<H: Nsec3Hasher> Hashing<'_, H> {
         Some(())
     }
 
-    /// The records that a chain lends: all, or those that answer questions; or why there is none.
+    /// Adds the records that a chain lends: all, or those that answer questions. If there is no
+    /// chain, adds why.
     fn lent(&self, form: &str, words: &[&str], answers: &mut Answers) -> Answered {
         let (listed, asked) = halves(words, ":");
         let zone = answers.zone(listed)?;
@@ -193,8 +196,9 @@ impl<H: Nsec3Hasher> Hashing<'_, H> {
         answers.show("record", chain.nsec3param())
     }
 
-    /// What records prove of a name and a type, or answer as a whole; or what they answer of a name
-    /// that was expanded from a wildcard, with the labels that signatures tell in place of a type.
+    /// Adds what records prove about a name and a type, or what they answer as a whole. The form
+    /// `expanded` is about a name that was expanded from a wildcard. It has the labels that
+    /// signatures give in place of a type.
     fn ask(&self, form: &str, chain: &Made, words: &[&str], answers: &mut Answers) -> Answered {
         let (alloc, apex, hasher, most) = (answers.alloc, self.0, self.2, MOST_ITERATIONS);
         let index = answers.ok(Nsec3Index::new(alloc, apex, chain))?;
@@ -226,7 +230,7 @@ impl<H: Nsec3Hasher> Hashing<'_, H> {
         }
     }
 
-    /// What records prove, or what they answer as a whole, of each name.
+    /// Adds what records prove about each name, or what they answer as a whole.
     fn judge(&self, form: &str, words: &[&str], answers: &mut Answers) -> Answered {
         let (listed, asked) = halves(words, ":");
         let nsec3s = records_of!(answers, Nsec3, listed);
@@ -254,7 +258,7 @@ impl<H: Nsec3Hasher> Hashing<'_, H> {
     }
 }
 
-/// What a form asks of the generator, with a salt that a word spells.
+/// Returns the configuration of the generator for a form, with a salt that a word spells.
 fn config(form: &str, iterations: u16, salt: &str, answers: &mut Answers) -> Given<Config> {
     let salt = answers.ok(Nsec3Salt::scan(answers.alloc, &mut Tokens::new(&[salt])))?;
     let params = Nsec3param::new(Nsec3HashAlgorithm::SHA1, 0, iterations, salt);
@@ -277,8 +281,9 @@ fn config(form: &str, iterations: u16, salt: &str, answers: &mut Answers) -> Giv
     })
 }
 
-/// Answers a vector on chains by hashes: a form, the apex, a table of names and hashes, or `sha1`
-/// with iterations and a salt, after a colon the records or the name, and after another questions.
+/// Answers a vector on chains by hashes. It has a form, the apex, and a table of names and hashes,
+/// or `sha1` with iterations and a salt. The records or the name follow after a colon, and
+/// questions after another.
 pub fn answer(form: &str, words: &[&str], answers: &mut Answers) -> Answered {
     let apex = &answers.name(word(words, 0))?;
     let (hashing, given) = halves(words.get(1..).unwrap_or_default(), ":");

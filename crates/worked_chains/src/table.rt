@@ -4,7 +4,7 @@ ghost use Rattle.worked_chains.specs.Table.{table_answer};
 
 use super::*;
 
-/// A name on the wire in lower case, and its hash, for which there may be no memory.
+/// A name on the wire in lower case, and its hash. There may be no memory for the hash.
 #[derive(Drop)]
 pub struct Row {
     name: Vec<u8>,
@@ -12,14 +12,14 @@ pub struct Row {
     has_memory: bool,
 }
 
-/// A hasher that answers the hash of a name's row, and refuses names without a row with the number
-/// 7. The other arguments are passed over.
+/// A hasher that returns the hash in the row of a name. For a name without a row, it returns the
+/// error `Refused` with the number 7. It ignores the other arguments.
 #[derive(Drop)]
 pub struct TableHasher {
     rows: Vec<Row>,
 }
 
-/// What the rows of a table answer.
+/// Looks up a name in the rows of a table.
 fn look_up(rows: &[Row], name: &[u8]) -> Result<Vec<u8>, HasherError>
     ensures ok { IfOk result (λ hash. table_answer rows.now name.now ≡ Ok hash.items) }
     ensures refused { (n : ℕ) → IsErrOf result (HasherError.Refused n)
@@ -55,8 +55,8 @@ impl Nsec3Hasher for TableHasher {
     }
 }
 
-/// The row that a word spells: a name, and after `=` the octets of its hash in Base 16, or `memory`
-/// where there is none for them.
+/// Returns the row that a word spells: a name, and after `=` the octets of its hash in Base 16. In
+/// place of these, `memory` means that there is no memory for them.
 fn make_row(word: &str, answers: &mut Answers) -> Given<Row> {
     let (text, digits) = word.split_once('=').unwrap_or((word, "-"));
     let mut name = Vec::new(answers.alloc);
@@ -71,7 +71,7 @@ fn make_row(word: &str, answers: &mut Answers) -> Given<Row> {
     })
 }
 
-/// The table whose rows words spell.
+/// Returns the table whose rows words spell.
 pub fn make_table(words: &[&str], answers: &mut Answers) -> Given<TableHasher> {
     let mut rows = Vec::new(answers.alloc);
     for word in words {

@@ -1,8 +1,9 @@
-//! Data of records: as text, as octets, in canonical form, by its fields, and in other holders
-//! (RFC 1035; RFC 4034; RFC 5155).
+//! Data of records: in presentation format, as octets, in canonical form, by its fields, and over
+//! other types of octets (RFC 1035; RFC 4034; RFC 5155).
 use super::*;
 
-/// Data as text, as octets, and as the octets of the canonical form, to which it is equal.
+/// Adds data in its printed form, as octets, and as the octets of its canonical form. Also adds how
+/// it compares with its octets, to which it is equal.
 fn forms<D: ComposeRecordData + Display>(data: &D, answers: &mut Answers) -> Answered {
     let (mut octets, mut canonical) = (Vec::new(answers.alloc), Vec::new(answers.alloc));
     answers.ok(data.compose_rdata(&mut octets))?;
@@ -17,7 +18,7 @@ fn forms<D: ComposeRecordData + Display>(data: &D, answers: &mut Answers) -> Ans
     Some(())
 }
 
-/// Data in generic form, by itself and where there is room for one octet.
+/// Adds data that tokens spell in generic form, and the error with room for only one octet.
 fn generic(tokens: &[&str], answers: &mut Answers) -> Answered {
     let alloc = answers.alloc;
     let data = UnknownRecordData::scan(alloc, Rtype::MX, &mut Tokens::new(tokens));
@@ -28,7 +29,7 @@ fn generic(tokens: &[&str], answers: &mut Answers) -> Answered {
     answers.fault("ArrayBuilder<1>", &short)
 }
 
-/// Why tokens are refused as data of a type where octets have room for three.
+/// Adds why tokens are rejected as data of a type with room for only three octets.
 fn tight(rtype: &str, tokens: &[&str], answers: &mut Answers) -> Answered {
     let (alloc, label) = (answers.alloc, "ArrayBuilder<3>");
     let scanner = &mut Short::<3>::new(tokens);
@@ -41,7 +42,8 @@ fn tight(rtype: &str, tokens: &[&str], answers: &mut Answers) -> Answered {
     }
 }
 
-/// What is written of data where there is room for so many octets: a beginning, or all of it.
+/// Adds what is written of data with room for as many octets as the first word says: a beginning,
+/// or all of it.
 fn room(words: &[&str], answers: &mut Answers) -> Answered {
     let count = word(words, 0).parse::<usize>().unwrap_or(0);
     let data = answers.data(words.get(1..).unwrap_or_default())?;
@@ -61,7 +63,7 @@ fn room(words: &[&str], answers: &mut Answers) -> Answered {
     )
 }
 
-/// How data of one type compare, where it is a type of DNSSEC.
+/// Adds how data of one type compare, if it is a type of DNSSEC.
 fn compare_same(a: &Data, b: &Data, answers: &mut Answers) -> Answered {
     match (a, b) {
         (ZoneRecordData::Dnskey(a), ZoneRecordData::Dnskey(b)) => answers.compared(a, b),
@@ -74,7 +76,8 @@ fn compare_same(a: &Data, b: &Data, answers: &mut Answers) -> Answered {
     }
 }
 
-/// How the data that two parts spell compare, as data of any type and of their own.
+/// Adds how the data that two parts spell compare, as data of any type and as data of their own
+/// type.
 fn compare(words: &[&str], answers: &mut Answers) -> Answered {
     let (front, back) = halves(words, "/");
     let (a, b) = (answers.data(front)?, answers.data(back)?);
@@ -82,7 +85,7 @@ fn compare(words: &[&str], answers: &mut Answers) -> Answered {
     compare_same(&a, &b, answers)
 }
 
-/// Data that octets begin with.
+/// Adds the data that octets begin with.
 fn parsed<'a, D>(rtype: Rtype, octets: &'a [u8], answers: &mut Answers) -> Answered
 where
     D: ParseRecordData<'a> + ComposeRecordData + Display + Drop,
@@ -96,7 +99,7 @@ where
     answers.show("at", &parser.pos())
 }
 
-/// Data of a type that octets begin with; MX data is no NS data.
+/// Adds the data of a type that octets begin with. MX data is not NS data.
 fn wire<'a>(rtype: &str, octets: &'a [u8], answers: &mut Answers) -> Answered {
     match rtype {
         "A" => parsed::<A>(Rtype::A, octets, answers),
@@ -114,7 +117,7 @@ fn wire<'a>(rtype: &str, octets: &'a [u8], answers: &mut Answers) -> Answered {
     }
 }
 
-/// Octets that may be too many for data of a type.
+/// Adds the error for octets that may be too many for data of a type.
 fn limit(rtype: &str, octets: &[u8], answers: &mut Answers) -> Answered {
     let (algorithm, digest) = (SecurityAlgorithm::RSASHA1, DigestAlgorithm::SHA256);
     match rtype {
@@ -130,7 +133,7 @@ fn limit(rtype: &str, octets: &[u8], answers: &mut Answers) -> Answered {
     }
 }
 
-/// Data made anew of the fields of a record that hashes, over lent octets.
+/// Adds data made anew from the fields of an NSEC3 record, over borrowed octets.
 fn new_hashed(data: &Nsec3<Vec<u8>>, answers: &mut Answers) -> Answered {
     let salt = answers.ok(Nsec3Salt::from_slice(data.salt().as_slice()))?;
     let next = answers.ok(OwnerHash::from_slice(data.next_owner().as_slice()))?;
@@ -140,7 +143,7 @@ fn new_hashed(data: &Nsec3<Vec<u8>>, answers: &mut Answers) -> Answered {
     answers.show("new", &new)
 }
 
-/// Data with a next hash that is another, and then without types.
+/// Adds data with another next hash, and then without types.
 fn changed(mut data: Nsec3<Vec<u8>>, answers: &mut Answers) -> Answered {
     data.set_next_owner(answers.ok(OwnerHash::from_str(answers.alloc, "CPNMUOG0"))?);
     answers.show("with another hash", &data);
@@ -148,7 +151,7 @@ fn changed(mut data: Nsec3<Vec<u8>>, answers: &mut Answers) -> Answered {
     answers.show("without types", &data)
 }
 
-/// The fields of a key, and the data made anew of them.
+/// Adds the fields of a key, and the data made anew from them.
 fn fields_of_key(data: &Dnskey<Vec<u8>>, answers: &mut Answers) -> Answered {
     let (flags, protocol, algorithm) = (data.flags(), data.protocol(), data.algorithm());
     let octets = data.public_key().as_slice();
@@ -164,7 +167,7 @@ fn fields_of_key(data: &Dnskey<Vec<u8>>, answers: &mut Answers) -> Answered {
     Some(())
 }
 
-/// The fields of a digest, and the data made anew of them.
+/// Adds the fields of a digest, and the data made anew from them.
 fn fields_of_digest(data: &Ds<Vec<u8>>, answers: &mut Answers) -> Answered {
     let (tag, algorithm, digest_type) = (data.key_tag(), data.algorithm(), data.digest_type());
     let octets = data.digest().as_slice();
@@ -179,10 +182,10 @@ fn fields_of_digest(data: &Ds<Vec<u8>>, answers: &mut Answers) -> Answered {
     Some(())
 }
 
-/// A signature, with its signer's name in the same holder.
+/// A signature, with its signer's name over the same type of octets.
 type Signature<O> = Rrsig<O, Name<O>>;
 
-/// A signature made anew of its fields, over lent octets, where it is known that it fits.
+/// Adds a signature made anew from its fields, over borrowed octets, if it is known to fit.
 fn unchecked_signature(data: &Signature<Vec<u8>>, answers: &mut Answers) -> Answered {
     let (rtype, algorithm, labels) = (data.type_covered(), data.algorithm(), data.labels());
     let (ttl, key_tag, octets) = (
@@ -220,7 +223,7 @@ fn unchecked_signature(data: &Signature<Vec<u8>>, answers: &mut Answers) -> Answ
     Some(())
 }
 
-/// The fields of data.
+/// Adds the fields of data.
 fn fields(data: &Data, answers: &mut Answers) -> Answered {
     match data {
         ZoneRecordData::A(data) => answers.show("address", &data.addr()),
@@ -265,7 +268,7 @@ fn fields(data: &Data, answers: &mut Answers) -> Answered {
     }
 }
 
-/// Data for programmers, and as a zone file shows it.
+/// Adds data in its `Debug` form, and in the format of a zone file.
 fn pieces<D: Debug + ZonefileFmt>(data: &D, answers: &mut Answers) -> Answered {
     answers.debug("debug", data);
     answers.pieces(data);
@@ -273,7 +276,7 @@ fn pieces<D: Debug + ZonefileFmt>(data: &D, answers: &mut Answers) -> Answered {
     answers.show_made("zone file", &text)
 }
 
-/// What a key says.
+/// Adds the forms and the properties of a key.
 fn key(data: &Dnskey<Vec<u8>>, answers: &mut Answers) -> Answered {
     pieces(data, answers);
     say_fields!(
@@ -285,7 +288,7 @@ fn key(data: &Dnskey<Vec<u8>>, answers: &mut Answers) -> Answered {
     answers.octets("public key", &same.into_public_key())
 }
 
-/// The fields of a signature that are signed, and the signature made anew of them.
+/// Adds the signed fields of a signature, and whether the signature made anew from them is equal.
 fn signed(data: &Signature<Vec<u8>>, answers: &mut Answers) -> Answered {
     let fields = ProtoRrsig::new(
         data.type_covered(),
@@ -306,7 +309,7 @@ fn signed(data: &Signature<Vec<u8>>, answers: &mut Answers) -> Answered {
     answers.debug("as before", &again.eq_to(data))
 }
 
-/// What a signature says.
+/// Adds the forms and the signed fields of a signature.
 fn signature(data: &Signature<Vec<u8>>, answers: &mut Answers) -> Answered {
     pieces(data, answers);
     say_each!(answers.show_made, data, Signature);
@@ -320,7 +323,7 @@ fn signature(data: &Signature<Vec<u8>>, answers: &mut Answers) -> Answered {
     Some(())
 }
 
-/// What data with a next name says.
+/// Adds the forms of data with a next name.
 fn next(data: &Nsec<Vec<u8>, OwnName>, answers: &mut Answers) -> Answered {
     let alloc = answers.alloc;
     pieces(data, answers);
@@ -335,7 +338,7 @@ fn next(data: &Nsec<Vec<u8>, OwnName>, answers: &mut Answers) -> Answered {
     answers.show("to the root", &copy)
 }
 
-/// What the parameters of a hash say.
+/// Adds the forms and the properties of the parameters of a hash.
 fn parameters(data: &Nsec3param<Vec<u8>>, answers: &mut Answers) -> Answered {
     pieces(data, answers);
     say_each!(answers.show_made, data, Nsec3param);
@@ -348,7 +351,8 @@ fn parameters(data: &Nsec3param<Vec<u8>>, answers: &mut Answers) -> Answered {
     )
 }
 
-/// What data says beyond its text and its octets, for programmers, and in other holders.
+/// Adds what data has beyond its printed form and its octets: its properties, its `Debug` form, and
+/// its forms over other types of octets.
 fn typed(data: &Data, answers: &mut Answers) -> Answered {
     let alloc = answers.alloc;
     match data {
@@ -385,12 +389,12 @@ fn typed(data: &Data, answers: &mut Answers) -> Answered {
     }
 }
 
-/// Two copies of data.
+/// Adds two copies of data.
 fn copies(data: &Data, answers: &mut Answers) -> Answered {
     say!(answers, show_made "clone": data.clone(), show_made "try_clone": data.try_clone())
 }
 
-/// What is composed of a signature, and of its fields that are signed.
+/// Adds what is composed of a signature, and of its signed fields.
 fn composed(data: &Data, answers: &mut Answers) -> Answered {
     let ZoneRecordData::Rrsig(data) = data else {
         return None;

@@ -1,4 +1,4 @@
-//! Worked values of the data of records: each line of the input is a vector, answered by what the
+//! Worked values of the data of records. Each line of the input is a vector. Its answer is what the
 //! library makes of it.
 #![tactic(auto)]
 
@@ -17,7 +17,7 @@ use std::fmt::{Debug, Display};
 use std::io;
 use worked_lines::*;
 
-/// Vectors of data.
+/// The vectors on data.
 struct DataVectors;
 
 impl Vectors for DataVectors {

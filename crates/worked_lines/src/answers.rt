@@ -1,4 +1,4 @@
-//! What a vector is answered with.
+//! The answers to vectors.
 use crate::say_methods;
 use domain_base::CanonicalOrd;
 use domain_octets::*;
@@ -6,16 +6,17 @@ use std::alloc::{AllocError, Global};
 use std::fmt::{Debug, Display, Formatter, Result as Printed, Write};
 use std::hash::{FoldHasher, Hash, Hasher};
 
-/// Room for two octets.
+/// A builder with room for two octets.
 pub type Two = ArrayBuilder<2>;
 
-/// What a vector has for its answer; None where that ends, and its last line says why.
+/// A value for the answer to a vector, or `None` if the answer ends. The last line of the answer
+/// says why it ends.
 pub type Given<T> = Option<T>;
 
-/// Whether an answer goes on. A line that is added ends none.
+/// Whether an answer continues. Adding a line never ends one.
 pub type Answered = Given<()>;
 
-/// Octets, printed in Base 16 by two lower-case digits each, or `-` where there are none.
+/// Octets that print in Base 16, as two lower-case digits each, or as `-` if there are none.
 #[derive(Drop)]
 struct Digits<'a>(&'a [u8]);
 
@@ -31,7 +32,7 @@ impl Display for Digits<'_> {
     }
 }
 
-/// What is hashed of a value.
+/// Returns the hash of a value.
 fn hash_of<T: Hash>(value: &T) -> u64 {
     let mut hasher = FoldHasher::default();
     value.hash(&mut hasher);
@@ -41,17 +42,17 @@ fn hash_of<T: Hash>(value: &T) -> u64 {
 /// The lines that answer vectors.
 #[derive(Drop)]
 pub struct Answers {
-    /// Where all that is made of a vector is put.
+    /// The allocator for everything that is made from a vector.
     pub alloc: Global,
     text: String,
     has_memory: bool,
 }
 
-/// How many octets of text an answer has room for before it takes more memory.
+/// The number of octets of text that answers have room for before they allocate more memory.
 const ROOM: usize = 65_536;
 
 impl Answers {
-    /// No lines yet.
+    /// Returns answers without lines.
     pub fn new(alloc: Global) -> Result<Answers, AllocError> {
         Ok(Answers {
             alloc,
@@ -60,30 +61,31 @@ impl Answers {
         })
     }
 
-    /// The lines, or none where the program had no memory for one of them.
+    /// Returns the lines, or `None` if the program was out of memory for one of them.
     pub fn text(&self) -> Option<&str> {
         self.has_memory.then_some(self.text.as_str())
     }
 
-    /// What the program itself made; where it has no memory for that, it prints no answer at all.
+    /// Returns a value that the program made for itself, or `None` if it was out of memory. The
+    /// program then prints no answer at all.
     pub fn own<T: Drop, E: Drop>(&mut self, made: Result<T, E>) -> Given<T> {
         self.has_memory &= made.is_ok();
         made.ok()
     }
 
-    /// Adds a line as it stands.
+    /// Adds a line unchanged.
     pub fn echo(&mut self, line: &str) -> Answered {
         self.has_memory &= writeln!(self.text, "{line}").is_ok();
         Some(())
     }
 
-    /// Adds a line with a label and a value as it prints.
+    /// Adds a line with a label and a value in its printed form.
     pub fn show<T: Display>(&mut self, label: &str, value: &T) -> Answered {
         self.has_memory &= writeln!(self.text, "  {label}: {value}").is_ok();
         Some(())
     }
 
-    /// Adds a line with a label and a value as it prints for programmers.
+    /// Adds a line with a label and a value in its `Debug` form.
     pub fn debug<T: Debug>(&mut self, label: &str, value: &T) -> Answered {
         self.has_memory &= writeln!(self.text, "  {label}: {value:?}").is_ok();
         Some(())
@@ -94,13 +96,13 @@ impl Answers {
         self.show(label, &Digits(octets.as_slice()))
     }
 
-    /// Adds a line with how many characters the text of a value has.
+    /// Adds a line with the number of characters in the printed form of a value.
     pub fn characters<T: Display>(&mut self, value: &T) -> Answered {
         let text = self.own(format!(in self.alloc; "{value}"))?;
         self.show("characters", &text.len())
     }
 
-    /// Adds a line with the pieces of a value as a zone file shows it.
+    /// Adds a line with the pieces of a value in the format of a zone file.
     pub fn pieces<T: ZonefileFmt>(&mut self, value: &T) -> Answered {
         let mut formatter = PieceFormatter::new(self.alloc);
         match ZonefileFmt::fmt(value, &mut formatter) {
@@ -117,14 +119,14 @@ impl Answers {
         Some(())
     }
 
-    /// Adds how two values compare, and whether the same is hashed of them.
+    /// Adds how two values compare, and whether they have the same hash.
     pub fn compared<T: Ord + CanonicalOrd + Hash>(&mut self, a: &T, b: &T) -> Answered {
         self.debug("eq", &(a == b));
         say_methods!(self, a.(cmp partial_cmp canonical_cmp)(b));
         self.debug("one hash", &(hash_of(a) == hash_of(b)))
     }
 
-    /// Adds a line with a label, and a value as it prints or the error.
+    /// Adds a line with a label, and the value in its printed form or the error.
     pub fn show_made<T: Display, E: Debug>(&mut self, label: &str, of: &Result<T, E>) -> Answered {
         match of {
             Ok(made) => self.show(label, made),
@@ -132,7 +134,7 @@ impl Answers {
         }
     }
 
-    /// Adds a line with a label, and octets or the error.
+    /// Adds a line with a label, and the octets or the error.
     pub fn octets_made<O: Octets, E: Debug>(&mut self, label: &str, of: &Result<O, E>) -> Answered {
         match of {
             Ok(made) => self.octets(label, made),
@@ -140,7 +142,7 @@ impl Answers {
         }
     }
 
-    /// Adds a line with a label, and a value for programmers or the error.
+    /// Adds a line with a label, and the value in its `Debug` form or the error.
     pub fn debug_made<T: Debug, E: Debug>(&mut self, label: &str, of: &Result<T, E>) -> Answered {
         match of {
             Ok(made) => self.debug(label, made),
@@ -148,7 +150,7 @@ impl Answers {
         }
     }
 
-    /// Adds a line with a label and what a call made; an error ends the answer.
+    /// Adds a line with a label and the result of a call. An error ends the answer.
     pub fn done<E: Debug>(&mut self, label: &str, made: &Result<(), E>) -> Answered {
         self.debug(label, made);
         made.is_ok().then_some(())
@@ -159,7 +161,7 @@ impl Answers {
         self.debug(label, &made.as_ref().err())
     }
 
-    /// What a call made; an error ends the answer.
+    /// Returns the value that a call made. An error ends the answer.
     pub fn ok<T: Drop, E: Debug + Drop>(&mut self, made: Result<T, E>) -> Given<T> {
         match made {
             Ok(made) => Some(made),
@@ -171,17 +173,18 @@ impl Answers {
     }
 }
 
-/// A value over other octets, made of a copy.
+/// Returns a value over other octets, made from a copy.
 pub fn converted<D: TryClone, T: OctetsFrom<D>>(alloc: Global, of: &D) -> Result<T, AppendError> {
     T::try_octets_from(alloc, of.try_clone()?)
 }
 
-/// A value that a copy is flattened into.
+/// Returns the value that a copy is flattened into.
 pub fn flattened<D: TryClone + FlattenInto<T>, T>(alloc: Global, of: &D) -> Result<T, AppendError> {
     of.try_clone()?.try_flatten_into(alloc)
 }
 
-/// A value with names over shared octets, over arrays of two, and flattened into shared ones.
+/// Adds a value with names over shared octets, over arrays of two octets, and flattened into shared
+/// octets.
 pub fn in_two<D, B, A>(value: &D, answers: &mut Answers) -> Answered
 where
     D: TryClone + FlattenInto<B>,

@@ -1,9 +1,10 @@
-//! What all programs of worked values share: the lines of the input, each with its answer below it,
-//! what a vector is answered with, and what its words spell.
+//! The parts that all programs of worked values share. These are the lines of the input with their
+//! answers below them, the answers to vectors, and the values that words spell.
 //!
-//! A program implements `Vectors` and calls `run`. An error of a call that a vector makes is part
-//! of the answer. Where the program itself is out of memory, it prints no answer and ends with an
-//! error: the text of answers, the words of a line and the lists of values are its own.
+//! A program implements `Vectors` and calls `run`. If a call for a vector fails, its error is part
+//! of the answer. If the program itself is out of memory, it prints no answer and ends with an
+//! error. This applies to memory for the text of answers, the words of a line and the lists of
+//! values.
 #![tactic(auto)]
 
 mod answers;

@@ -3,9 +3,9 @@ use crate::answers::{Answered, Answers};
 use crate::words::expanded;
 use std::io;
 
-/// What answers vectors.
+/// A type that answers vectors.
 pub trait Vectors {
-    /// Answers one vector: its subject, its form, and the words after these.
+    /// Answers one vector, which has a subject, a form, and words after these.
     fn answer(&self, subject: &str, form: &str, words: &[&str], answers: &mut Answers) -> Answered;
 }
 
@@ -26,7 +26,8 @@ fn answer_line<V: Vectors>(vectors: &V, line: &str, answers: &mut Answers) -> An
     }
 }
 
-/// Reads all of the input, and prints its lines, each but a comment with its answer below it.
+/// Reads the whole input, and prints each line with its answer below it. Comments and empty lines
+/// have no answer.
 pub fn run<R: Input + Print + AllocGlobal, V: Vectors>(rt: &R, vectors: &V) -> io::Result<()> {
     let input = io::read_to_string(rt.alloc(), rt.reader())?;
     let mut answers = Answers::new(rt.alloc())?;

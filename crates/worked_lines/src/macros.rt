@@ -1,7 +1,7 @@
 //! Macros that add lines to an answer.
 
-/// Gives what was made, or ends the function with the error as the answer: `ok` with `?` for values
-/// that can't be passed to `ok`.
+/// Evaluates to the value that was made, or ends the function with the error as the answer. Use it
+/// in place of `ok` with `?` for values that can't be passed to `ok`.
 #[macro_export]
 macro_rules! given {
     ($answers:ident, $made:expr) => {
@@ -15,7 +15,7 @@ macro_rules! given {
     };
 }
 
-/// Adds values, each printed by a method of the answers, after its label.
+/// Adds values, each after its label and printed by a method of the answers.
 #[macro_export]
 macro_rules! say {
     ($answers:ident, $($print:ident $label:literal: $value:expr),* $(,)?) => {{
@@ -33,7 +33,7 @@ macro_rules! say_fields {
     }};
 }
 
-/// Adds what methods give of a value and another one, each after the method's name.
+/// Adds what methods return for a value and another one, each after the method's name.
 #[macro_export]
 macro_rules! say_methods {
     ($answers:ident, $value:ident.($($method:ident)*)($other:expr)) => {{
@@ -42,7 +42,7 @@ macro_rules! say_methods {
     }};
 }
 
-/// Adds a value over owned octets, over shared ones, and over arrays of two.
+/// Adds a value over owned octets, over shared octets, and over arrays of two octets.
 #[macro_export]
 macro_rules! say_each {
     ($answers:ident.$print:ident, $value:expr, $kind:ident) => {{

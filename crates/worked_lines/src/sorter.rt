@@ -1,11 +1,11 @@
-//! A sorter without memory.
+//! A sorter that is always out of memory.
 ghost use Rattle.std.specs.Prelude.{false};
 
 use domain_octets::OutOfMemory;
 use domain_records::Sorter;
 use std::cmp::Ordering;
 
-/// Never has the memory to sort.
+/// A sorter that never has the memory to sort.
 pub struct RefusingSorter;
 
 impl Sorter for RefusingSorter {

@@ -2,7 +2,7 @@
 use domain_base::FromToken;
 use std::alloc::{AllocError, Global};
 
-/// A word with what it abbreviates: `''` is the empty word, and `a.{127}` is `a.` 127 times over.
+/// Expands what a word abbreviates: `''` is the empty word, and `a.{127}` is `a.` 127 times.
 pub fn expanded(alloc: Global, word: &str) -> Result<String, AllocError> {
     if word == "''" {
         return Ok(String::new(alloc));
@@ -14,22 +14,22 @@ pub fn expanded(alloc: Global, word: &str) -> Result<String, AllocError> {
     }
 }
 
-/// The word that stands at a place, or the empty word.
+/// Returns the word at index `at`, or the empty word.
 pub fn word<'a>(words: &[&'a str], at: usize) -> &'a str {
     words.get(at).copied().unwrap_or_default()
 }
 
-/// The value that a word spells, if it spells one.
+/// Returns the value that a word spells, or `None` if it spells none.
 pub fn value<F: FromToken + Drop>(word: &str) -> Option<F> {
     F::from_token(word).ok()
 }
 
-/// Whether a word stands between two parts.
+/// Returns whether a word separates two parts.
 pub fn is_slash(word: &&str) -> bool {
     *word == "/"
 }
 
-/// The words before the first that is a mark, and all after it.
+/// Returns the words before the first `mark`, and all words after it.
 pub fn halves<'a, 'b>(words: &'a [&'b str], mark: &str) -> (&'a [&'b str], &'a [&'b str]) {
     match words.iter().position(|word| *word == mark) {
         Some(at) => (&words[..at], words.get(at + 1..).unwrap_or_default()),

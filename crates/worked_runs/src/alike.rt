@@ -1,4 +1,5 @@
-//! Names that hash alike: those that `denial lint` tells, and the first two, as C is told them.
+//! Names with the same hash: those that `denial lint` reports, and the first two, as they are
+//! reported to C.
 use crate::outcome::{show, text_of};
 use denial_program::sort_zone;
 use domain_alike::{first_alike, write_lowered};
@@ -14,7 +15,7 @@ use std::alloc::Global;
 use std::io;
 use std::io::ErrorKind;
 
-/// What `denial lint` says of a text, and how it ends.
+/// Prints what `denial lint` says about a text, and how it ends.
 pub fn lint<H: Nsec3Hasher>(
     rt: &HostRuntime,
     hasher: &H,
@@ -31,7 +32,7 @@ pub fn lint<H: Nsec3Hasher>(
     }
 }
 
-/// The octets that a text spells in Base 16.
+/// Returns the octets that a text spells in Base 16.
 fn octets_of(alloc: Global, text: &str) -> io::Result<Vec<u8>> {
     let words: Vec<&str> = text.split_whitespace().collect(alloc)?;
     let mut scanner = IterScanner::<Vec<u8>>::new(words.as_slice());
@@ -41,7 +42,7 @@ fn octets_of(alloc: Global, text: &str) -> io::Result<Vec<u8>> {
     }
 }
 
-/// The records of a message that octets are, one after another.
+/// Returns the records that octets encode as in a message, one after another.
 fn records_in(alloc: Global, octets: &[u8]) -> io::Result<Vec<BorrowedRecord<'_>>> {
     let mut parser = Parser::new(octets);
     let mut records = Vec::new(alloc);
@@ -54,13 +55,13 @@ fn records_in(alloc: Global, octets: &[u8]) -> io::Result<Vec<BorrowedRecord<'_>
     Ok(records)
 }
 
-/// Whether a word is among them.
+/// Returns whether `wanted` is among the words.
 fn has(words: &[String], wanted: &str) -> bool {
     words.iter().any(|word| word.as_str() == wanted)
 }
 
-/// The parameters of a chain, with opt-out and without names below a DNAME where these are asked
-/// for.
+/// Returns the configuration of a chain, with opt-out and without names below a DNAME if the words
+/// ask for these.
 fn config_of(alloc: Global, words: &[String]) -> GenerateNsec3Config<Vec<u8>, InPlaceSorter> {
     let mut config = GenerateNsec3Config::default(alloc);
     config.occlude_below_dname = has(words, "below-dname");
@@ -70,7 +71,7 @@ fn config_of(alloc: Global, words: &[String]) -> GenerateNsec3Config<Vec<u8>, In
     config
 }
 
-/// Prints a name as it is hashed, with the octet after it in the buffer.
+/// Prints a name in the form that is hashed, with the octet after it in the buffer.
 fn show_name(rt: &HostRuntime, label: &str, name: &ParsedName<'_>) -> io::Result<()> {
     let mut buffer = [0xee; 255];
     write_lowered(name, &mut buffer);
@@ -81,8 +82,8 @@ fn show_name(rt: &HostRuntime, label: &str, name: &ParsedName<'_>) -> io::Result
     println!(rt; "")
 }
 
-/// The first two names of the chain at `A.` that hash alike, the earlier one first. The text is the
-/// records' octets.
+/// Prints the first two names of the chain at `A.` that have the same hash, the earlier one first.
+/// The text spells the octets of the records.
 pub fn first<H: Nsec3Hasher>(
     rt: &HostRuntime,
     hasher: &H,

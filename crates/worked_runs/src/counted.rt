@@ -1,15 +1,15 @@
-//! How many records a chain has, how many of them list no types, and how often a run hashes.
+//! Counts: the records of a chain, those of them that list no types, and the hashes of a run.
 use crate::hashers::CountingHasher;
 use crate::outcome::outcome;
 use std::cell::Cell;
 use std::io;
 
-/// Whether a line is an NSEC3 record that lists no types: it has nine words.
+/// Returns whether a line is an NSEC3 record that lists no types. Such a line has nine words.
 fn is_untyped(line: &str) -> bool {
     line.contains(" NSEC3 ") && line.split(' ').count() == 9
 }
 
-/// What a run of `denial` comes to, in numbers.
+/// Prints the outcome of a run of `denial` in numbers.
 pub fn run(rt: &HostRuntime, words: &[String], text: &str) -> io::Result<()> {
     let hasher = CountingHasher {
         asked: Cell::new(0),

@@ -5,8 +5,8 @@ use domain_sha1::Sha1Hasher;
 use std::io;
 use std::io::{BufReader, ErrorKind, Read, Write};
 
-/// Gives at most 7 octets a read, and fails once, for this reason, at the read after the first
-/// `good` ones.
+/// A reader that returns at most 7 octets per read. It fails once, for `reason`, at the read after
+/// the first `good` reads.
 #[derive(Drop)]
 struct FailingReader<'a> {
     octets: &'a [u8],
@@ -27,8 +27,8 @@ impl Read for FailingReader<'_> {
     }
 }
 
-/// Takes at most 11 octets a write, and fails at the write after the first `good` ones, or only
-/// once it is told to hand them on.
+/// A writer that takes at most 11 octets per write. It fails at the write after the first `good`
+/// writes, or only when it is flushed.
 #[derive(Drop)]
 struct FailingWriter {
     good: usize,
@@ -54,7 +54,7 @@ impl Write for FailingWriter {
     }
 }
 
-/// What a run says whose reader fails once, for this reason, after so many reads.
+/// Returns the outcome of a run whose reader fails once, for `reason`, after `good` reads.
 fn said_after(
     rt: &HostRuntime,
     good: usize,
@@ -72,8 +72,8 @@ fn said_after(
     outcome(rt.alloc(), words, &Sha1Hasher, &mut input)
 }
 
-/// What runs say whose reader fails after each number of reads from the first word's on up to the
-/// second's; where all say the same, once.
+/// Prints the outcomes of runs whose reader fails after each number of reads. The numbers go from
+/// the first word up to the second. An outcome that equals the one before it is not printed.
 pub fn reads(rt: &HostRuntime, reason: ErrorKind, words: &[String], text: &str) -> io::Result<()> {
     let [first, end, words @ ..] = words else {
         return Err(io::Error::from(ErrorKind::InvalidInput));
@@ -90,7 +90,7 @@ pub fn reads(rt: &HostRuntime, reason: ErrorKind, words: &[String], text: &str) 
     Ok(())
 }
 
-/// A run into a writer that fails after so many writes, or when it is told to hand them on.
+/// Runs `denial` with a writer that fails after `good` writes, or when it is flushed.
 fn run_into(
     rt: &HostRuntime,
     good: usize,
@@ -114,8 +114,8 @@ fn run_into(
     (answer, held)
 }
 
-/// What went out where a writer fails after each number of writes up to 300. Each takes 11 octets
-/// at most.
+/// Prints what is written if the writer fails after each number of writes up to 300. Each write
+/// takes at most 11 octets.
 pub fn writes(rt: &HostRuntime, words: &[String], text: &str) -> io::Result<()> {
     let (_, whole) = run_into(rt, usize::MAX, true, words, text);
     let (mut refused, mut is_beginning, mut is_told) = (0, true, true);
@@ -135,7 +135,7 @@ pub fn writes(rt: &HostRuntime, words: &[String], text: &str) -> io::Result<()> 
     println!(rt; "  refused at each piece, and then no longer: {is_each}")
 }
 
-/// What is said of a writer that takes all and can't hand it on.
+/// Prints the result of a run whose writer takes all octets but can't flush them.
 pub fn flush(rt: &HostRuntime, words: &[String], text: &str) -> io::Result<()> {
     let (_, whole) = run_into(rt, usize::MAX, true, words, text);
     let (answer, held) = run_into(rt, usize::MAX, false, words, text);

@@ -1,4 +1,4 @@
-//! Hashers that count what they are asked, and by which many names hash alike.
+//! A hasher that counts its calls, and one that gives many names the same hash.
 ghost use Rattle.std.specs.{Prelude.{Ok, length}, Int.{w64, to_be_bytes}};
 ghost use Rattle.domain_sha1.specs.Iterated.{sha1_answer};
 
@@ -8,10 +8,10 @@ use domain_sha1::Sha1Hasher;
 use std::alloc::Global;
 use std::cell::Cell;
 
-/// SHA-1, and how often it was asked for a hash.
+/// A SHA-1 hasher that counts how often it is called for a hash.
 #[derive(Drop)]
 pub struct CountingHasher {
-    /// How often.
+    /// The number of calls.
     pub asked: Cell<usize>,
 }
 
@@ -33,7 +33,7 @@ impl Nsec3Hasher for CountingHasher {
     }
 }
 
-/// By it names hash alike whose wire forms have one length.
+/// A hasher that gives the same hash to names whose wire forms have the same length.
 pub struct LengthHasher;
 
 impl Nsec3Hasher for LengthHasher {

@@ -1,7 +1,7 @@
 //! The words and the lines of a run.
 use std::alloc::{AllocError, Global};
 
-/// The words of a line, with a space between them.
+/// Returns the words of a line, which have a space between them.
 pub fn words(alloc: Global, line: &str) -> Result<Vec<String>, AllocError> {
     let mut words = Vec::new(alloc);
     for word in line.split(' ') {
@@ -10,8 +10,8 @@ pub fn words(alloc: Global, line: &str) -> Result<Vec<String>, AllocError> {
     Ok(words)
 }
 
-/// Adds what stands between braces: `CR` and `TAB` are these characters, `126 a.` is `a.` so often,
-/// and `END` is nothing.
+/// Adds what the text between braces means: `CR` and `TAB` are these characters, `126 a.` is `a.`
+/// 126 times, and `END` is nothing.
 fn add_marked(text: &mut String, marked: &str) -> Result<(), AllocError> {
     match marked {
         "CR" => text.push('\r')?,
@@ -26,7 +26,7 @@ fn add_marked(text: &mut String, marked: &str) -> Result<(), AllocError> {
     Ok(())
 }
 
-/// Adds a line that is read, and its end, unless `{END}` stands there.
+/// Adds a line that is read, and its end, unless the line ends with `{END}`.
 fn add_one(text: &mut String, line: &str) -> Result<(), AllocError> {
     for part in line.split('{') {
         match part.split_once('}') {
@@ -43,7 +43,8 @@ fn add_one(text: &mut String, line: &str) -> Result<(), AllocError> {
     Ok(())
 }
 
-/// Adds a line that is read, behind a space, before which may stand how often it is read.
+/// Adds the line that is read, which is after the first space. A number before that space says how
+/// many times the line is read.
 pub fn add_line(text: &mut String, spelled: &str) -> Result<(), AllocError> {
     let (count, line) = spelled.split_once(' ').unwrap_or(("", spelled));
     for _ in 0..count.parse::<u32>().unwrap_or(1) {

@@ -1,6 +1,6 @@
-//! Worked runs: each run of `denial` or `denial lint` that the input spells, answered by what it
-//! writes or by what it says of its fault; also over readers and writers that fail, and by hashers
-//! that count what they are asked or by which many names hash alike.
+//! Worked runs: each run of `denial` or `denial lint` that the input spells. The answer is what the
+//! run writes, or what it says about its fault. Some runs have readers or writers that fail. Some
+//! have hashers that count their calls, or that give many names the same hash.
 #![tactic(auto)]
 
 mod alike;
@@ -15,7 +15,7 @@ use domain_sha1::Sha1Hasher;
 use std::io;
 use std::io::ErrorKind;
 
-/// Answers a run: its form, the words after it, and the text that is read.
+/// Answers a run, given its form, the words after it, and the text that it reads.
 fn answer(rt: &HostRuntime, form: &str, words: &[String], text: &str) -> io::Result<()> {
     match form {
         "denial" => outcome::run(rt, words, text),
@@ -44,8 +44,8 @@ fn answer_line(rt: &HostRuntime, line: &str, text: &str) -> io::Result<()> {
     }
 }
 
-/// Prints each line of the input, and below a run with its lines what it is answered with. A run
-/// without lines reads what the run before it read.
+/// Prints each line of the input. The answer to a run is below the run and its lines. A run without
+/// lines reads what the run before it read.
 fn main(rt: HostRuntime) -> io::Result<()> {
     let alloc = rt.alloc();
     let input = io::read_to_string(alloc, rt.reader())?;

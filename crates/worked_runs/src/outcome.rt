@@ -1,4 +1,4 @@
-//! What a run writes, or what it says of its fault.
+//! The outcome of a run: what it writes, or what it says about its fault.
 use denial_program::run_denial;
 use domain_hasher::Nsec3Hasher;
 use domain_sha1::Sha1Hasher;
@@ -6,12 +6,13 @@ use std::alloc::Global;
 use std::io;
 use std::io::{BufRead, ErrorKind};
 
-/// Octets that are to be a text, as one.
+/// Converts octets to a text.
 pub fn text_of(octets: Vec<u8>) -> io::Result<String> {
     String::from_utf8(octets).map_err(|_| io::Error::from(ErrorKind::InvalidData))
 }
 
-/// What a run of `denial` over the words writes, or what it says of its fault.
+/// Returns what a run of `denial` with the arguments `words` writes, or what it says about its
+/// fault.
 pub fn outcome<R: BufRead, H: Nsec3Hasher>(
     alloc: Global,
     words: &[String],
@@ -34,7 +35,7 @@ pub fn show(rt: &HostRuntime, text: &str) -> io::Result<()> {
     Ok(())
 }
 
-/// What a run of `denial` comes to.
+/// Prints the outcome of a run of `denial`.
 pub fn run(rt: &HostRuntime, words: &[String], text: &str) -> io::Result<()> {
     let said = outcome(rt.alloc(), words, &Sha1Hasher, &mut text.as_bytes())?;
     show(rt, said.as_str())

@@ -1,7 +1,7 @@
 //! Bitmaps of types (RFC 4034, section 4.1.2).
 use super::*;
 
-/// The types that words name.
+/// Returns the types that words name.
 fn types(words: &[&str], answers: &mut Answers) -> Given<Vec<Rtype>> {
     let mut types = Vec::new(answers.alloc);
     for word in words {
@@ -10,7 +10,7 @@ fn types(words: &[&str], answers: &mut Answers) -> Given<Vec<Rtype>> {
     Some(types)
 }
 
-/// A bitmap in each of its forms, and whether types are in it.
+/// Adds a bitmap in each of its forms, and whether it contains the types in `asked`.
 fn show<O: Octets>(bitmap: &Bitmap<O>, asked: &[Rtype], answers: &mut Answers) -> Answered {
     say!(
         answers, octets "octets": *bitmap, show "text": bitmap, debug "debug": bitmap,
@@ -30,7 +30,8 @@ fn show<O: Octets>(bitmap: &Bitmap<O>, asked: &[Rtype], answers: &mut Answers) -
     Some(())
 }
 
-/// The bitmap of types, of which the builder says which have no room, and what is asked of it.
+/// Adds the bitmap of the types in `added`, and whether it contains those in `asked`. Also adds the
+/// types for which the builder has no room.
 fn built<B>(added: &[Rtype], asked: &[Rtype], answers: &mut Answers) -> Answered
 where
     B: EmptyBuilder + FreezeBuilder + Truncate + Drop,
@@ -48,7 +49,8 @@ where
     show(&builder.finalize(), asked, answers)
 }
 
-/// The bitmap of the first type of each window, added from the last window to the first.
+/// Adds the bitmap of the first type of each window. The types are added from the last window to
+/// the first.
 fn windows(answers: &mut Answers) -> Answered {
     let mut builder = RtypeBitmapBuilder::new_vec(answers.alloc);
     for window in 0..256u16 {
@@ -59,7 +61,7 @@ fn windows(answers: &mut Answers) -> Answered {
     answers.characters(&bitmap)
 }
 
-/// The bitmap that octets are, and the one that is read of them.
+/// Adds the bitmap that octets encode, and the one that is parsed from them.
 fn from_octets(octets: &[u8], answers: &mut Answers) -> Answered {
     if let Some(bitmap) = answers.ok(Bitmap::from_octets(octets)) {
         show(&bitmap, &[], answers);
@@ -71,7 +73,7 @@ fn from_octets(octets: &[u8], answers: &mut Answers) -> Answered {
     answers.show("at", &parser.pos())
 }
 
-/// A bitmap in other holders, and written where there is room for it once.
+/// Adds a bitmap over other types of octets, and what is written where it fits only once.
 fn held(bitmap: &Bitmap<&[u8]>, answers: &mut Answers) -> Answered {
     say_each!(answers.octets_made, bitmap, Bitmap);
     let mut target = ArrayBuilder::<6>::empty(answers.alloc);
@@ -81,7 +83,7 @@ fn held(bitmap: &Bitmap<&[u8]>, answers: &mut Answers) -> Answered {
     )
 }
 
-/// The bitmap of the types that tokens name, by itself and where there is room for one window.
+/// Adds the bitmap of the types that tokens name, in a `Vec` and with room for one window.
 fn scan(tokens: &[&str], answers: &mut Answers) -> Answered {
     let mut scanner = Tokens::new(tokens);
     let mut short = Short::<34>::new(tokens);
@@ -97,7 +99,7 @@ fn scan(tokens: &[&str], answers: &mut Answers) -> Answered {
     )
 }
 
-/// What a builder says when types are added to it; out of memory ends the answer.
+/// Adds types to a builder, and shows what it returns. An out-of-memory error ends the answer.
 fn add<B: Truncate>(
     builder: &mut RtypeBitmapBuilder<B>,
     added: &[Rtype],
@@ -113,13 +115,13 @@ fn add<B: Truncate>(
     Some(())
 }
 
-/// A builder without types, and the bitmap that it makes.
+/// Adds the bitmap that a builder without types makes.
 fn without_types(answers: &mut Answers) -> Answered {
     let builder = RtypeBitmapBuilder::<Vec<u8>>::default(answers.alloc);
     show(&builder.finalize(), &[], answers)
 }
 
-/// A list of bitmaps, each of which a word spells, and what is at each place of it.
+/// Adds a list of the bitmaps that words spell, and what is at each place of it.
 fn list(words: &[&str], answers: &mut Answers) -> Answered {
     let mut list = RtypeBitmaps::new(answers.alloc);
     answers.show("empty", &list.is_empty());
@@ -135,7 +137,7 @@ fn list(words: &[&str], answers: &mut Answers) -> Answered {
     answers.debug("at", &list.get(list.len()))
 }
 
-/// Types that are added to builders, and types that are then asked for.
+/// Answers a vector on types that are added to builders, and on types that are then looked up.
 fn of_types(form: &str, words: &[&str], answers: &mut Answers) -> Answered {
     let (added, asked) = halves(words, "/");
     let (added, asked) = (types(added, answers)?, types(asked, answers)?);

@@ -1,7 +1,7 @@
-//! Octets as text (RFC 4648).
+//! Octets encoded as text (RFC 4648).
 use super::*;
 
-/// Octets that print in an alphabet, or in Base 16 with lower-case letters where none is named.
+/// Octets that print in an alphabet, or in lower-case Base 16 if no alphabet is given.
 #[derive(Drop)]
 struct Encoded<'a>(Option<Codec>, &'a [u8]);
 
@@ -16,7 +16,7 @@ impl Display for Encoded<'_> {
     }
 }
 
-/// Octets in each alphabet, made at once and printed.
+/// Adds octets in each alphabet, both encoded into a string and printed.
 fn encode(octets: &[u8], answers: &mut Answers) -> Answered {
     let alloc = answers.alloc;
     let lower = answers.ok(base32::encode_hex_lower(alloc, octets))?;
@@ -31,7 +31,8 @@ fn encode(octets: &[u8], answers: &mut Answers) -> Answered {
     )
 }
 
-/// What a text stands for that is cut in two at each place, with an empty text between.
+/// Adds what a text encodes if it is cut in two, for each place of the cut. An empty text is
+/// between the parts.
 fn decode_cut(codec: Codec, text: &str, answers: &mut Answers) -> Answered {
     for place in 0..=text.len() {
         if let Some((front, back)) = text.split_at_checked(place) {
@@ -42,7 +43,8 @@ fn decode_cut(codec: Codec, text: &str, answers: &mut Answers) -> Answered {
     Some(())
 }
 
-/// A word without the number of an alphabet that it ends in, and that alphabet, else Base 64.
+/// Returns a word without the number of an alphabet at its end, and that alphabet. Without such a
+/// number, the alphabet is Base 64.
 pub fn split_codec(word: &str) -> (&str, Codec) {
     if let Some(front) = word.strip_suffix("16") {
         return (front, Codec::Base16);
@@ -53,7 +55,7 @@ pub fn split_codec(word: &str) -> (&str, Codec) {
     (word.strip_suffix("64").unwrap_or(word), Codec::Base64)
 }
 
-/// Answers a vector on octets as text.
+/// Answers a vector on octets encoded as text.
 pub fn answer(form: &str, words: &[&str], answers: &mut Answers) -> Answered {
     let (alloc, text) = (answers.alloc, word(words, 0));
     let (form, codec) = split_codec(form);

@@ -1,7 +1,7 @@
 //! Salts, and hashes of owner names (RFC 5155, sections 3.1.5 and 3.1.7).
 use super::*;
 
-/// A salt or a hash in each of its forms.
+/// Adds a salt or a hash in each of its forms.
 fn show<C: Octets + Display + Debug>(counted: &C, answers: &mut Answers) -> Answered {
     say!(
         answers, show "text": counted, debug "debug": counted, octets "octets": *counted,
@@ -9,7 +9,7 @@ fn show<C: Octets + Display + Debug>(counted: &C, answers: &mut Answers) -> Answ
     )
 }
 
-/// The salt that a text spells, by itself and as a token.
+/// Adds the salt that a text spells, read by `from_str` and as a token.
 fn salt(text: &str, answers: &mut Answers) -> Answered {
     match Nsec3Salt::<Vec<u8>>::from_str(answers.alloc, text) {
         Ok(salt) => {
@@ -28,7 +28,7 @@ fn salt(text: &str, answers: &mut Answers) -> Answered {
     )
 }
 
-/// The hash that a text spells, by itself and as a token.
+/// Adds the hash that a text spells, read by `from_str` and as a token.
 fn hash(text: &str, answers: &mut Answers) -> Answered {
     if let Some(hash) = answers.ok(OwnerHash::<Vec<u8>>::from_str(answers.alloc, text)) {
         show(&hash, answers);
@@ -41,7 +41,7 @@ fn hash(text: &str, answers: &mut Answers) -> Answered {
     )
 }
 
-/// How many octets a salt and a hash have that a text spells, or why it spells none.
+/// Adds how many octets the salt and the hash that a text spells have, or why it spells none.
 fn sizes(text: &str, answers: &mut Answers) -> Answered {
     let alloc = answers.alloc;
     if let Some(salt) = answers.ok(Nsec3Salt::<Vec<u8>>::from_str(alloc, text)) {
@@ -56,7 +56,8 @@ fn sizes(text: &str, answers: &mut Answers) -> Answered {
     )
 }
 
-/// Why a text is no salt and no hash over octets of one kind, by itself and as the next token.
+/// Adds why a text is no salt and no hash over one type of octets. The text is read by `from_str`
+/// and as the next token.
 fn refusals<O, S>(text: &str, scanner: &mut S, answers: &mut Answers) -> Answered
 where
     O: FromBuilder + Drop,
@@ -72,7 +73,7 @@ where
     )
 }
 
-/// Octets as a salt and as a hash, in other holders.
+/// Adds octets as a salt and as a hash, over other types of octets.
 fn held(octets: &[u8], answers: &mut Answers) {
     if let Some(salt) = &answers.ok(Nsec3Salt::from_slice(octets)) {
         say_each!(answers.octets_made, salt, Nsec3Salt);
@@ -82,7 +83,7 @@ fn held(octets: &[u8], answers: &mut Answers) {
     }
 }
 
-/// How two salts or two hashes compare.
+/// Adds how two salts or two hashes compare.
 fn compare<E: Default + Debug + Drop>(a: &[u8], b: &[u8], answers: &mut Answers) -> Answered {
     let a = answers.ok(Counted::<&[u8], E>::from_slice(a))?;
     let b = answers.ok(Counted::<&[u8], E>::from_slice(b))?;
@@ -90,8 +91,8 @@ fn compare<E: Default + Debug + Drop>(a: &[u8], b: &[u8], answers: &mut Answers)
     say_methods!(answers, a.(canonical_cmp_to)(&b))
 }
 
-/// The hashes of four names by SHA-1, at once, and that of the last one alone. The names come after
-/// the salt, each in octets.
+/// Adds the SHA-1 hashes of four names, made at once, and that of the last name, made separately.
+/// The words are the salt and then the names, each in octets.
 pub fn digests(iterations: &str, words: &[&str], answers: &mut Answers) -> Answered {
     let Some(iterations) = value::<u16>(iterations) else {
         return answers.echo("  no number of iterations");
@@ -116,7 +117,7 @@ pub fn digests(iterations: &str, words: &[&str], answers: &mut Answers) -> Answe
     answers.octets("one", &last)
 }
 
-/// Answers a vector on salts and hashes that has octets.
+/// Answers a vector on salts and hashes whose words spell octets.
 fn of_octets(form: &str, first: &[u8], second: &[u8], answers: &mut Answers) -> Answered {
     match form {
         "parse" => {
@@ -147,7 +148,8 @@ fn of_octets(form: &str, first: &[u8], second: &[u8], answers: &mut Answers) -> 
     }
 }
 
-/// Answers a vector on salts and hashes; `room` is for one octet, for 255 and for 256.
+/// Answers a vector on salts and hashes. The form `room` has room for 1, for 255 and for 256
+/// octets.
 pub fn answer(form: &str, words: &[&str], answers: &mut Answers) -> Answered {
     let text = word(words, 0);
     match form {

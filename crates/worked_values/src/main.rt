@@ -1,5 +1,5 @@
-//! Worked values of octets, texts, names, numbers, bitmaps, salts and hashes: each line of the
-//! input is a vector, answered by what the library makes of it.
+//! Worked values of octets, texts, names, numbers, bitmaps, salts and hashes. Each line of the
+//! input is a vector. Its answer is what the library makes of it.
 #![tactic(auto)]
 
 mod bitmaps;
@@ -25,7 +25,7 @@ use std::io;
 use std::str::FromStr;
 use worked_lines::*;
 
-/// Vectors of values.
+/// The vectors on values.
 struct Values;
 
 impl Vectors for Values {

@@ -1,7 +1,8 @@
-//! Names: as text, on the wire, compared, and in other holders (RFC 1035; RFC 4034, section 6.1).
+//! Names: in presentation format, on the wire, compared, and over other types of octets (RFC 1035;
+//! RFC 4034, section 6.1).
 use super::*;
 
-/// A name in each of its forms.
+/// Adds a name in each of its forms.
 fn show<N: ToName + Display + Debug>(name: &N, answers: &mut Answers) -> Answered {
     say!(
         answers, show "text": name, show "dotted": name.fmt_with_dot(),
@@ -10,7 +11,7 @@ fn show<N: ToName + Display + Debug>(name: &N, answers: &mut Answers) -> Answere
     )
 }
 
-/// The names that octets begin with, one after another, until one is refused.
+/// Parses three names from the front of octets, one after another, and adds each name or its error.
 fn parse(octets: &[u8], answers: &mut Answers) -> Answered {
     let mut parser = Parser::new(octets);
     for _ in 0..3 {
@@ -22,7 +23,7 @@ fn parse(octets: &[u8], answers: &mut Answers) -> Answered {
     Some(())
 }
 
-/// The name without its first label, which the root has not.
+/// Adds the name without its first label. The root has no first label.
 fn parent(name: &OwnName, answers: &mut Answers) -> Answered {
     match name.as_parsed().parent() {
         Some(parent) => answers.show("parent", &parent),
@@ -30,14 +31,14 @@ fn parent(name: &OwnName, answers: &mut Answers) -> Answered {
     }
 }
 
-/// How a name and one that a text spells, and that is then borrowed, compare.
+/// Adds how a name compares with a borrowed name that a text spells.
 fn compare(a: &OwnName, text: &str, answers: &mut Answers) -> Answered {
     let b = answers.name(text)?;
     let b = &answers.ok(ParsedName::from_slice(b.as_wire()))?;
     say_methods!(answers, a.(name_eq ends_with name_cmp composed_cmp lowercase_composed_cmp)(b))
 }
 
-/// How each name compares with the one before it, and how many labels the two share.
+/// Adds how each name compares with the one before it, and how many labels the two share.
 fn ascend(words: &[&str], answers: &mut Answers) -> Answered {
     let mut before = answers.name(".")?;
     for word in words {
@@ -49,7 +50,7 @@ fn ascend(words: &[&str], answers: &mut Answers) -> Answered {
     Some(())
 }
 
-/// A name in each kind of holder, of which one has room for three octets and one for two.
+/// Adds a name over each type of octets. One type has room for three octets, and one for two.
 fn held(name: &OwnName, answers: &mut Answers) -> Answered {
     let alloc = answers.alloc;
     answers.debug_made("copy", &converted::<_, OwnName>(alloc, name));
@@ -63,7 +64,7 @@ fn held(name: &OwnName, answers: &mut Answers) -> Answered {
     )
 }
 
-/// What is written of a name in canonical form where some of eleven octets are taken.
+/// Adds what is written of a name in canonical form if some of eleven octets are already taken.
 fn room(name: &OwnName, words: &[&str], answers: &mut Answers) -> Answered {
     let mut target = ArrayBuilder::<11>::empty(answers.alloc);
     let taken = answers.spelled(words.get(2..).unwrap_or_default())?;
@@ -75,7 +76,8 @@ fn room(name: &OwnName, words: &[&str], answers: &mut Answers) -> Answered {
     )
 }
 
-/// What maps with a name as a key, in order and by its hash, find by one that a text spells.
+/// Inserts a name as a key into an ordered map and into a hash map. Adds what each map finds for
+/// the name that a text spells.
 fn find(key: &OwnName, text: &str, answers: &mut Answers) -> Answered {
     let asked = answers.name(text)?;
     let mut tree = BTreeMap::new(answers.alloc);
@@ -88,7 +90,7 @@ fn find(key: &OwnName, text: &str, answers: &mut Answers) -> Answered {
     answers.debug("HashMap", &hashed.get(&asked).copied())
 }
 
-/// The names in the order of std's sort.
+/// Adds the names in the order of std's sort.
 fn sort(words: &[&str], answers: &mut Answers) -> Answered {
     let mut names = Vec::new(answers.alloc);
     for word in words {

@@ -2,7 +2,7 @@
 //! signatures (RFC 1982; RFC 4034, section 3).
 use super::*;
 
-/// Answers with the number of each constant of a type.
+/// Adds the number of each constant of a type.
 macro_rules! show_numbers {
     ($answers:ident, $type:ident: $($name:ident)*) => {
         for (name, constant) in &[$((stringify!($name), $type::$name)),*] {
@@ -11,7 +11,7 @@ macro_rules! show_numbers {
     };
 }
 
-/// Answers a vector on constants: the number of each that has a name.
+/// Answers a vector on constants with the number of each that has a name.
 pub fn constants(form: &str, answers: &mut Answers) -> Answered {
     match form {
         "types" => show_numbers!(
@@ -31,7 +31,7 @@ pub fn constants(form: &str, answers: &mut Answers) -> Answered {
     Some(())
 }
 
-/// The number of each type or class that is named, and the name of each that is numbered.
+/// Adds the number of each type or class given by name, and the name of each given by number.
 fn named(form: &str, words: &[&str], answers: &mut Answers) -> Answered {
     for word in words {
         match (form, word.parse::<u16>()) {
@@ -46,7 +46,8 @@ fn named(form: &str, words: &[&str], answers: &mut Answers) -> Answered {
     Some(())
 }
 
-/// The octets that one token, or all, stand for in an alphabet, and why they stand for no two.
+/// Adds the octets that one token, and all tokens, encode in an alphabet. Also adds the errors of
+/// decoding them into two octets.
 fn convert(words: &[&str], answers: &mut Answers) -> Answered {
     let (alloc, (_, codec)) = (answers.alloc, split_codec(word(words, 0)));
     let tokens = words.get(1..).unwrap_or_default();
@@ -60,7 +61,7 @@ fn convert(words: &[&str], answers: &mut Answers) -> Answered {
     )
 }
 
-/// What a scanner has behind the first token, and the builder that it makes.
+/// Adds what a scanner has after the first token, and the builder that it makes.
 fn skip(words: &[&str], answers: &mut Answers) -> Answered {
     let mut scanner = Tokens::new(words);
     scanner.skip_token();
@@ -70,7 +71,8 @@ fn skip(words: &[&str], answers: &mut Answers) -> Answered {
     )
 }
 
-/// So many seconds, minutes and hours as TTLs, each in seconds, and the algorithm of the number.
+/// Reads a text as a number. Adds the TTLs of that number of seconds, minutes and hours, each in
+/// seconds, and the algorithm of that number.
 fn counted(text: &str, answers: &mut Answers) -> Answered {
     let count = text.parse::<u8>().unwrap_or(0);
     let wide = u16::from(count);
@@ -82,7 +84,7 @@ fn counted(text: &str, answers: &mut Answers) -> Answered {
     )
 }
 
-/// Answers with the value of the first token, as the function of the form reads it.
+/// Adds the value of the first token, as the function for the form reads it.
 macro_rules! scan {
     ($form:ident, $scanner:ident, $answers:ident: $($name:pat => $scan:expr),*) => {
         match $form {
@@ -91,7 +93,7 @@ macro_rules! scan {
     };
 }
 
-/// The value that the first token spells, as any text of its type.
+/// Adds the value that the first token spells, read by the `scan` of `FromToken`.
 fn scan(form: &str, tokens: &[&str], answers: &mut Answers) -> Answered {
     let mut scanner = Tokens::new(tokens);
     scan!(
@@ -104,7 +106,7 @@ fn scan(form: &str, tokens: &[&str], answers: &mut Answers) -> Answered {
     answers.debug("next", &scanner.first_token())
 }
 
-/// Answers a vector on a value that one token spells, by its own `scan`.
+/// Answers a vector on a value that one token spells, read by the value's own `scan`.
 pub fn scanned(form: &str, tokens: &[&str], answers: &mut Answers) -> Answered {
     let mut scanner = Tokens::new(tokens);
     scan!(
@@ -115,7 +117,7 @@ pub fn scanned(form: &str, tokens: &[&str], answers: &mut Answers) -> Answered {
     answers.debug("continues", &scanner.continues())
 }
 
-/// Answers with a value as octets, and with the numbers that so many values are read of them as.
+/// Adds a value as octets, and the numbers of the `$times` values that are read from them.
 macro_rules! say_composed {
     ($answers:ident, $value:ident, $type:ident, $times:literal) => {{
         let mut octets = Vec::new($answers.alloc);
@@ -132,14 +134,14 @@ macro_rules! say_composed {
     }};
 }
 
-/// The serial number that a text spells, as text and as octets.
+/// Adds the serial number that a text spells, in its printed form and as octets.
 fn serial(text: &str, answers: &mut Answers) -> Answered {
     let serial = given!(answers, Serial::from_str(text));
     answers.show("text", &serial);
     say_composed!(answers, serial, Serial, 1)
 }
 
-/// The time that a text spells, in each of its forms, and that it spells as a token.
+/// Adds the time that a text spells, in each of its forms, and the time that it spells as a token.
 fn time(text: &str, answers: &mut Answers) -> Answered {
     match text.parse::<Timestamp>() {
         Ok(stamp) => {
@@ -153,7 +155,7 @@ fn time(text: &str, answers: &mut Answers) -> Answered {
     answers.show_made("scanned", &scanned)
 }
 
-/// The time nearest to a reference, all in Base 16.
+/// Adds the time of `stamp` that is nearest to `reference`. All of them are in Base 16.
 fn near(stamp: &str, reference: &str, answers: &mut Answers) -> Answered {
     let stamp = u32::from_str_radix(stamp, 16).unwrap_or(0);
     let reference = u64::from_str_radix(reference, 16).unwrap_or(0);

@@ -1,10 +1,11 @@
-//! Octets, what builds them, and what reads them from the front.
+//! Octets, their builders, and the parser that reads them from the front.
 use super::*;
 
-/// Room for three octets.
+/// A builder with room for three octets.
 type Three = ArrayBuilder<3>;
 
-/// What a builder makes of octets that others follow, or whose second is the first of the others.
+/// Returns what a builder makes of `front`. The form `join` appends `back`. Any other form replaces
+/// the second octet with the first octet of `back`.
 fn build<B>(form: &str, alloc: Global, front: &[u8], back: &[u8]) -> Result<B::Frozen, AppendError>
 where
     B: EmptyBuilder + FreezeBuilder + Drop,
@@ -19,7 +20,7 @@ where
     Ok(builder.freeze())
 }
 
-/// What each builder makes of two parts.
+/// Adds what each builder makes of two parts.
 fn built(form: &str, front: &[u8], back: &[u8], answers: &mut Answers) -> Answered {
     let alloc = answers.alloc;
     say!(
@@ -38,7 +39,7 @@ fn built(form: &str, front: &[u8], back: &[u8], answers: &mut Answers) -> Answer
     }
 }
 
-/// A holder of octets, and a copy of it where it was made.
+/// Adds octets converted to the type `O`, and a copy of them if that succeeds.
 fn twice<'a, O>(label: &str, octets: &'a [u8], answers: &mut Answers) -> Answered
 where
     O: OctetsFrom<&'a [u8]> + Octets + Drop,
@@ -50,7 +51,8 @@ where
     answers.octets_made(label, &made)
 }
 
-/// Octets in each kind of holder, and of each kind that a builder makes without its steps.
+/// Adds octets converted to each type. The types that a builder makes are also made directly,
+/// without the steps of a builder.
 fn held(octets: &[u8], answers: &mut Answers) -> Answered {
     let alloc = answers.alloc;
     answers.octets_made("Vec", &Vec::try_octets_from(alloc, octets));
@@ -66,8 +68,8 @@ fn held(octets: &[u8], answers: &mut Answers) -> Answered {
     )
 }
 
-/// What is left of octets behind the first, for a parser that stands there and for one that has
-/// gone past two more; and an own copy of them.
+/// Adds the octets that a parser has left after the first one, and those that a fork has left after
+/// two more. Also adds an owned copy of the octets.
 fn left(octets: &[u8], answers: &mut Answers) -> Answered {
     let mut parser = Parser::new(octets);
     answers.debug("u8", &parser.parse_u8());
@@ -82,7 +84,7 @@ fn left(octets: &[u8], answers: &mut Answers) -> Answered {
     )
 }
 
-/// Answers a vector on octets: joined or written over by each builder, held, read, or none.
+/// Answers a vector on octets: joined or overwritten by each builder, converted, read, or empty.
 pub fn answer(form: &str, words: &[&str], answers: &mut Answers) -> Answered {
     let (alloc, (front, back)) = (answers.alloc, answers.two_parts(words)?);
     match form {

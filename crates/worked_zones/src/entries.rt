@@ -1,7 +1,7 @@
-//! Entries of a zone's text, and names of messages (RFC 1035, sections 4.1.4 and 5.1).
+//! Entries of a zone file, and names in messages (RFC 1035, sections 4.1.4 and 5.1).
 use super::*;
 
-/// The record that tokens spell, or the reason why they spell none.
+/// Adds the record that tokens spell, or the reason why they spell none.
 fn show(made: &Result<OwnedRecord, LineError>, answers: &mut Answers) -> Answered {
     answers.show_made("record", made);
     match made {
@@ -10,7 +10,7 @@ fn show(made: &Result<OwnedRecord, LineError>, answers: &mut Answers) -> Answere
     }
 }
 
-/// The record whose owner is given, and whose other parts tokens spell.
+/// Adds the record whose owner is `owner`, and whose other parts `tokens` spell.
 fn behind(owner: &str, tokens: &[&str], answers: &mut Answers) -> Answered {
     let owner = answers.name(owner)?;
     show(
@@ -19,7 +19,7 @@ fn behind(owner: &str, tokens: &[&str], answers: &mut Answers) -> Answered {
     )
 }
 
-/// The name at a place of a message, and the place behind it.
+/// Adds the name at a place of a message, and the place after it.
 fn name(place: &str, octets: &[u8], answers: &mut Answers) -> Answered {
     let place = place.parse::<usize>().unwrap_or(0);
     match read_name::<OwnName>(answers.alloc, octets, place) {
@@ -28,7 +28,7 @@ fn name(place: &str, octets: &[u8], answers: &mut Answers) -> Answered {
     }
 }
 
-/// Answers a vector on entries and names of messages.
+/// Answers a vector on entries, or on names in messages.
 pub fn answer(form: &str, words: &[&str], answers: &mut Answers) -> Answered {
     let (first, rest) = (word(words, 0), words.get(1..).unwrap_or_default());
     match form {

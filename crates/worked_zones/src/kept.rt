@@ -1,5 +1,5 @@
-//! Sorted sets after each step: records that are put in one by one or at once, and what is stored
-//! then, also where memory is refused.
+//! Sorted sets after each step. Records are inserted one by one or at once. The answer shows what
+//! is then stored, also after an out-of-memory error.
 use super::*;
 
 /// Adds the records that are stored.
@@ -10,12 +10,13 @@ fn stored(zone: &Zone, answers: &mut Answers) -> Answered {
     Some(())
 }
 
-/// Whether an equal record was the reason.
+/// Returns whether an equal record was the reason for the error.
 fn is_present(error: &InsertError<OwnName, Data>) -> bool {
     matches!(error, InsertError::Present(_))
 }
 
-/// Inserts a record, or shows the one that is handed back; out of memory ends the answer.
+/// Inserts a record, or adds the record that the error returns. An out-of-memory error ends the
+/// answer.
 fn insert(record: OwnedRecord, zone: &mut Zone, answers: &mut Answers) -> Answered {
     match zone.insert(record) {
         Ok(()) => {
@@ -36,7 +37,7 @@ fn insert(record: OwnedRecord, zone: &mut Zone, answers: &mut Answers) -> Answer
     }
 }
 
-/// Inserts each record, and shows what is stored after each.
+/// Inserts each record, and adds what is stored after each.
 pub fn inserted(words: &[&str], answers: &mut Answers) -> Answered {
     let records = answers.records(words)?;
     let mut zone = Zone::default(answers.alloc);

@@ -1,5 +1,5 @@
-//! Worked values of records and sorted sets of them: each line of the input is a vector, answered
-//! by what the library makes of it.
+//! Worked values of records and of sorted sets of them. Each line of the input is a vector. Its
+//! answer is what the library makes of it.
 #![tactic(auto)]
 
 mod entries;
@@ -19,7 +19,7 @@ use std::fmt::{Error, Result as Printed, Write};
 use std::io;
 use worked_lines::*;
 
-/// Vectors of records.
+/// The vectors on records.
 struct Records;
 
 impl Vectors for Records {

@@ -1,8 +1,8 @@
-//! Records and sorted sets of them, in order, as text, in other holders, and in groups by owner and
-//! by type (RFC 2181, section 5; RFC 4034, section 6).
+//! Records and sorted sets of them: in order, printed, over other types of octets, and in groups by
+//! owner and by type (RFC 2181, section 5; RFC 4034, section 6).
 use super::*;
 
-/// Puts a record in, and shows what the set answers. Returns false if it is out of memory.
+/// Inserts a record, and adds what the set returns. Returns false if it is out of memory.
 fn put(record: OwnedRecord, zone: &mut Zone, answers: &mut Answers) -> bool {
     match zone.insert(record) {
         Ok(()) => answers.show("records", &zone.len()),
@@ -15,7 +15,7 @@ fn put(record: OwnedRecord, zone: &mut Zone, answers: &mut Answers) -> bool {
     true
 }
 
-/// What a sorted set answers when each record is put in, and what stands then.
+/// Adds what a sorted set returns when each record is inserted, and the records that it then holds.
 fn insert(words: &[&str], answers: &mut Answers) -> Answered {
     let records = answers.records(words)?;
     let mut zone = Zone::default(answers.alloc);
@@ -29,12 +29,13 @@ fn insert(words: &[&str], answers: &mut Answers) -> Answered {
     answers.show_records(zone.as_slice())
 }
 
-/// Whether a record has a TTL of 61 seconds.
+/// Returns whether a record has a TTL of 61 seconds.
 fn is_marked(record: &OwnedRecord) -> bool {
     record.ttl() == Ttl::from_secs(61)
 }
 
-/// Gives the marked record other data, or removes the first or all of an owner, class and type.
+/// Replaces the data of the marked record, or removes the first record or all records of an owner,
+/// class and type.
 fn change(form: &str, asked: &[&str], zone: &mut Zone, answers: &mut Answers) -> Answered {
     if form == "update" {
         zone.update_data(is_marked, answers.data(asked)?);
@@ -50,7 +51,8 @@ fn change(form: &str, asked: &[&str], zone: &mut Zone, answers: &mut Answers) ->
     answers.show("removed", &removed)
 }
 
-/// Copies of sorted records, and of records one by one, each of which may equal the one before it.
+/// Adds copies of sorted records, and of records one by one. Each record may equal the one before
+/// it.
 fn copy(words: &[&str], answers: &mut Answers) -> Answered {
     let addresses = records_of!(answers, A, words);
     for pair in addresses.windows(2) {
@@ -65,13 +67,13 @@ fn copy(words: &[&str], answers: &mut Answers) -> Answered {
     answers.show_records(copy.as_slice())
 }
 
-/// Copies of sorted records of any type.
+/// Adds copies of sorted records of any type.
 fn copy_all(zone: &Zone, answers: &mut Answers) -> Answered {
     let copy = answers.ok(zone.clone())?;
     answers.show_records(copy.as_slice())
 }
 
-/// A record that gets other data, in place.
+/// Adds a record whose data is replaced in place.
 fn with_data(words: &[&str], answers: &mut Answers) -> Answered {
     let (record, data) = halves(words, "/");
     let (mut record, data) = (answers.record(record)?, answers.data(data)?);
@@ -79,7 +81,7 @@ fn with_data(words: &[&str], answers: &mut Answers) -> Answered {
     answers.show("record", &record)
 }
 
-/// The first two values, and how many come first and after the first one.
+/// Adds the first two values, the number of values up to the first, and the number after it.
 fn parts(all: &SliceRefsOrOwned<'_, OwnedRecord>, answers: &mut Answers) -> Answered {
     if all.len() < 2 {
         return answers.echo("  fewer than two");
@@ -90,7 +92,7 @@ fn parts(all: &SliceRefsOrOwned<'_, OwnedRecord>, answers: &mut Answers) -> Answ
     )
 }
 
-/// Records, and references to them, as slices and as groups by owner.
+/// Adds records and references to them, as slices and as groups by owner.
 fn slices(words: &[&str], answers: &mut Answers) -> Answered {
     let records = answers.records(words)?;
     let mut references = Vec::new(answers.alloc);
@@ -106,7 +108,8 @@ fn slices(words: &[&str], answers: &mut Answers) -> Answered {
     )
 }
 
-/// What the SOA of the apex gives to a chain, and the first owners that are not occluded.
+/// Adds the TTL that the SOA record of the apex gives to a chain, and the first owners that are not
+/// occluded.
 fn unoccluded(zone: &Zone, asked: &[&str], answers: &mut Answers) -> Answered {
     let apex = answers.name(word(asked, 0))?;
     let groups = zone.owner_rrs();
@@ -129,10 +132,10 @@ fn unoccluded(zone: &Zone, asked: &[&str], answers: &mut Answers) -> Answered {
     Some(())
 }
 
-/// A record of a zone's start.
+/// An SOA record.
 type Start<O> = Record<Name<O>, Soa<Name<O>>>;
 
-/// The records of a zone's start in other holders.
+/// Adds SOA records over other types of octets.
 fn held(words: &[&str], answers: &mut Answers) -> Answered {
     for start in &records_of!(answers, Soa, words) {
         say_each!(answers.show_made, start, Start);
@@ -142,7 +145,7 @@ fn held(words: &[&str], answers: &mut Answers) -> Answered {
     Some(())
 }
 
-/// Takes so many characters, and refuses what would be more.
+/// A writer that takes a given number of characters, and fails if there are more.
 #[derive(Drop)]
 struct Narrow(usize);
 
@@ -153,17 +156,18 @@ impl Write for Narrow {
     }
 }
 
-/// Writes a comment at a record.
+/// Writes a comment on a record.
 fn comment<W: Write>(_record: &OwnedRecord, target: &mut W) -> Printed {
     target.write_str(" ;x")
 }
 
-/// Refuses to write a comment.
+/// Fails instead of writing a comment.
 fn refuse(_record: &OwnedRecord, _target: &mut Narrow) -> Printed {
     Err(Error)
 }
 
-/// A sorted set as text, by itself and with comments, and to writers that refuse.
+/// Adds a sorted set in its printed form, without and with comments, and the results of writers
+/// that fail.
 fn write(zone: &Zone, answers: &mut Answers) -> Answered {
     let mut text = answers.own(String::with_capacity(answers.alloc, 1024))?;
     let mut commented = answers.own(String::with_capacity(answers.alloc, 1024))?;
@@ -176,10 +180,10 @@ fn write(zone: &Zone, answers: &mut Answers) -> Answered {
     )
 }
 
-/// The records of an owner and a type, if there are some, or why they are no set.
+/// The records of an owner and a type, if there are any, or why they are no set.
 type Found<'a> = Result<Option<Rrset<'a, OwnName, Data>>, SigningError>;
 
-/// What was found of an owner and a type.
+/// Adds what was found for an owner and a type.
 fn show(label: &str, found: Found<'_>, answers: &mut Answers) -> Answered {
     match found {
         Ok(Some(set)) => {
@@ -191,7 +195,7 @@ fn show(label: &str, found: Found<'_>, answers: &mut Answers) -> Answered {
     }
 }
 
-/// The SOA records of a zone, and the records of an owner and some types.
+/// Adds the SOA records of a zone, and the records of an owner and some types.
 fn find(zone: &Zone, asked: &[&str], answers: &mut Answers) -> Answered {
     let owner = answers.name(word(asked, 0))?;
     show("SOA", zone.find_soa(), answers);
@@ -202,7 +206,7 @@ fn find(zone: &Zone, asked: &[&str], answers: &mut Answers) -> Answered {
     Some(())
 }
 
-/// A group of one owner, and the groups by type in it.
+/// Adds a group of one owner, and the groups by type in it.
 fn owner(group: &OwnerRrs<'_, OwnName, Data>, apex: &OwnName, answers: &mut Answers) {
     say!(
         answers, show "owner": group.owner(), show "class": group.class(),
@@ -215,7 +219,7 @@ fn owner(group: &OwnerRrs<'_, OwnName, Data>, apex: &OwnName, answers: &mut Answ
     }
 }
 
-/// The groups by owner from the apex on; they outlive the iterator that gives them.
+/// Returns the groups by owner from the apex on. They outlive the iterator that returns them.
 fn grouped<'a>(
     zone: &'a Zone,
     apex: &OwnName,
@@ -232,7 +236,7 @@ fn grouped<'a>(
     Some(owners)
 }
 
-/// The groups by owner from the apex on, and those of the whole zone.
+/// Adds the groups by owner from the apex on, and those of the whole zone.
 fn owners(zone: &Zone, asked: &[&str], answers: &mut Answers) -> Answered {
     let apex = answers.name(word(asked, 0))?;
     for group in &grouped(zone, &apex, answers)? {
@@ -241,7 +245,7 @@ fn owners(zone: &Zone, asked: &[&str], answers: &mut Answers) -> Answered {
     references(zone, answers)
 }
 
-/// The groups over references, in order and reversed, and the groups by type of the zone.
+/// Adds the groups over references, in order and reversed, and the groups by type of the zone.
 fn references(zone: &Zone, answers: &mut Answers) -> Answered {
     let mut references = Vec::new(answers.alloc);
     for record in zone.iter() {
@@ -262,7 +266,7 @@ fn references(zone: &Zone, answers: &mut Answers) -> Answered {
     show("all as a set", set, answers)
 }
 
-/// Records as one set, and what it gives as a copy, one by one, and as what it was made of.
+/// Adds records as one set. Also adds what its copy, its iterator and `into_inner` return.
 fn set(words: &[&str], answers: &mut Answers) -> Answered {
     let records = &answers.records(words)?;
     show("owned", Rrset::new_from_owned(records).map(Some), answers);
@@ -275,8 +279,8 @@ fn set(words: &[&str], answers: &mut Answers) -> Answered {
     }
 }
 
-/// A sorted set of the first record that words spell, into which all of them are put at once; by
-/// the usual sorter these are then counted.
+/// Inserts the first record that words spell into a sorted set, and then all of them at once. With
+/// the usual sorter, also adds how many records the set then has.
 fn extended<S: Sorter>(form: &str, words: &[&str], answers: &mut Answers) -> Answered {
     let (first, _) = halves(words, "/");
     let (first, more) = (answers.record(first)?, answers.records(words)?);
@@ -293,7 +297,7 @@ fn extended<S: Sorter>(form: &str, words: &[&str], answers: &mut Answers) -> Ans
     Some(())
 }
 
-/// Answers a vector on a sorted set, and on what is asked of it.
+/// Answers a vector that queries or changes a sorted set.
 fn of_zone(form: &str, words: &[&str], answers: &mut Answers) -> Answered {
     let (asked, rest) = halves(words, "/");
     let mut zone = answers.zone(rest)?;
@@ -308,7 +312,7 @@ fn of_zone(form: &str, words: &[&str], answers: &mut Answers) -> Answered {
     }
 }
 
-/// Answers a vector on records; a set is sorted by the usual sorter, in place, or by none.
+/// Answers a vector on records. A set is sorted by the usual sorter, in place, or not at all.
 pub fn answer(form: &str, words: &[&str], answers: &mut Answers) -> Answered {
     match form {
         "extend" => extended::<DefaultSorter>(form, words, answers),
