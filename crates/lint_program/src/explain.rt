@@ -1,11 +1,11 @@
 //! Explains what is wrong with a line that is not a record. Nothing here decides that it is none.
 
-use crate::data_hint::{missing_data, told_of_data};
-use crate::hint::{class_trouble, quoted, strange_trouble, ttl_trouble, type_trouble};
-use crate::name_trouble::name_trouble;
 use crate::refusal::refusal_of;
-use crate::wanted::{Part, fields_of};
 use denial_program::without_end;
+use lint_hints::{
+    Part, class_trouble, fields_of, missing_data, name_trouble, quoted, strange_trouble,
+    told_of_data, ttl_trouble, type_trouble,
+};
 use std::alloc::{AllocError, Global};
 use std::str;
 

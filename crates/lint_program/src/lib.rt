@@ -17,25 +17,18 @@
 
 mod alike;
 mod command;
-mod data_hint;
-mod date;
 mod explain;
 mod fault;
 mod firsts;
-mod generic;
-mod hint;
 pub mod laws;
 mod looks;
-mod name_trouble;
 mod note_text;
 mod notes;
-mod odd;
 mod outcome;
 mod program;
 mod reading;
 mod refusal;
 mod report;
-mod wanted;
 
 pub use fault::LintFault;
 pub use outcome::Outcome;

@@ -4,10 +4,10 @@ ghost use Rattle.std.specs.Prelude.{◌≡◌, ◌↔◌, IfNone, IfSome, IsTrue
 ghost use Rattle.lint_program.specs.Notes.{fails, group_of, is_apex_soa, look_of, stands_beside_alias, Deserves, FindsNothing};
 ghost use Rattle.lint_program.specs.Notes.{AreDuplicates, AreInConflict};
 
-use crate::odd::{has_extras, is_such, shape_of};
 use crate::reading::Place;
 use domain_base::{Name, ParsedName, Rtype, ToName};
 use domain_borrowed::BorrowedRecord;
+use lint_hints::{has_extras, is_such, shape_of};
 
 /// The number of the type KEY, which has no constant of its own (RFC 2535, section 3).
 const KEY: u16 = 25;

@@ -3,8 +3,8 @@ ghost use Rattle.std.specs.Prelude.{◌≡◌};
 ghost use Rattle.lint_program.specs.Notes.{frame};
 
 use crate::looks::{Placed, Reason};
-use crate::odd::shape_of;
 use domain_base::{ParsedName, ToName};
+use lint_hints::shape_of;
 use std::alloc::{AllocError, Global};
 
 impl Reason {

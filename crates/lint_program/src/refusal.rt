@@ -1,9 +1,9 @@
 //! Finds the first word of a line that cannot be read as the part of the record at its place.
 
-use crate::wanted::Part;
 use denial_program::{ZoneName, ZoneOctets};
 use domain_base::{Class, FromToken, IterScanner, Rtype, ScanError, Scanner, Ttl};
 use domain_rdata::ZoneRecordData;
+use lint_hints::Part;
 use std::alloc::{AllocError, Global};
 
 /// The error for a word that was not read.

@@ -2,18 +2,20 @@
 //! own here.
 
 use crate::odd::{Shape, shape_of};
-use denial_program::ZoneName;
-use domain_base::{Rtype, ScanError, ToName};
-use domain_octets::OctetsBuilder;
+use domain_base::{Name, Rtype, ScanError, ToName};
+use domain_octets::{OctetsBuilder, SmallOctets};
 use std::alloc::{AllocError, Global};
 use std::net::Ipv6Addr;
+
+/// A name that owns its octets. Most are stored in the value itself, without allocation.
+type OwnedName = Name<SmallOctets>;
 
 /// The error for words that are no data.
 const NO_DATA: ScanError = ScanError::Custom("illegal data");
 
 /// Appends the octets of a name.
 fn put_name(alloc: Global, data: &mut Vec<u8>, word: &str) -> Result<(), ScanError> {
-    let name = ZoneName::from_str(alloc, word)?;
+    let name = OwnedName::from_str(alloc, word)?;
     data.append_slice(name.as_wire())?;
     Ok(())
 }

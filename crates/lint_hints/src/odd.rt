@@ -1,6 +1,6 @@
 //! Data that records may have but that are seldom intended.
 ghost use Rattle.std.specs.Prelude.{◌≡◌, ◌↔◌, IsTrue};
-ghost use Rattle.lint_program.specs.Notes.{has_extras, shape_of, AreTexts, HaveTag, IsSuch};
+ghost use Rattle.lint_hints.specs.Shapes.{has_extras, shape_of, AreTexts, HaveTag, IsSuch};
 
 use domain_base::{Name, Rtype};
 
