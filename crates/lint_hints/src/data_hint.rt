@@ -3,7 +3,7 @@
 use crate::date::seconds_of_date;
 use crate::generic::generic_form;
 use crate::hint::quoted;
-use crate::name_trouble::name_trouble;
+use crate::name_hint::name_trouble;
 use crate::wanted::{BASE16, BASE64, NAME, TIME, field_at, fields_of};
 use domain_base::{FromToken, Rtype};
 use std::alloc::{AllocError, Global};

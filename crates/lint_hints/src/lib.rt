@@ -13,12 +13,12 @@ mod data_hint;
 mod date;
 mod generic;
 mod hint;
-mod name_trouble;
+mod name_hint;
 mod odd;
 mod wanted;
 
 pub use data_hint::{missing_data, told_of_data};
 pub use hint::{class_trouble, quoted, strange_trouble, ttl_trouble, type_trouble};
-pub use name_trouble::name_trouble;
+pub use name_hint::name_trouble;
 pub use odd::{Shape, has_extras, is_such, shape_of};
 pub use wanted::{Part, fields_of};
