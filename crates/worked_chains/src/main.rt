@@ -37,6 +37,7 @@ use std::alloc::Global;
 use std::io;
 use table::make_table;
 use worked_lines::*;
+use worked_records::*;
 
 /// The vectors on chains.
 struct Chains;

@@ -10,12 +10,10 @@
 mod answers;
 mod lines;
 mod macros;
-mod sorter;
 mod spelled;
 mod words;
 
 pub use answers::{Answered, Answers, Given, Two, converted, flattened, in_two};
 pub use lines::{Vectors, run};
-pub use sorter::RefusingSorter;
-pub use spelled::{Data, OwnName, OwnedRecord, Short, Tokens, Typed, Zone};
+pub use spelled::{OwnName, Short, Tokens};
 pub use words::{halves, is_slash, value, word};

@@ -53,17 +53,20 @@ macro_rules! say_each {
     }};
 }
 
-/// Lists the records of one type among those that words spell.
+/// Adds a value as octets, and the numbers of the `$times` values that are read from them.
 #[macro_export]
-macro_rules! records_of {
-    ($answers:ident, $rtype:ident, $words:expr) => {{
-        let mut picked = Vec::new($answers.alloc);
-        for record in &$answers.records($words)? {
-            if let ZoneRecordData::$rtype(data) = record.data() {
-                let record = $answers.typed(record, data)?;
-                $answers.own(picked.push(record))?;
-            }
+macro_rules! say_composed {
+    ($answers:ident, $value:ident, $type:ident, $times:literal) => {{
+        let mut octets = Vec::new($answers.alloc);
+        $answers.done("composed", &$value.compose(&mut octets))?;
+        $answers.octets("octets", &octets);
+        let mut parser = Parser::new(octets.as_slice());
+        for _ in 0..$times {
+            match $type::parse(&mut parser) {
+                Ok(parsed) => $answers.show("parsed", &parsed.into_int()),
+                Err(error) => $answers.debug("refused", &error),
+            };
         }
-        picked
+        Some(())
     }};
 }

@@ -1,10 +1,8 @@
-//! Worked values of octets, texts, names, numbers, bitmaps, salts and hashes. Each line of the
-//! input is a vector. Its answer is what the library makes of it.
+//! Worked values of octets, texts, names and numbers. Each line of the input is a vector. Its answer
+//! is what the library makes of it.
 #![tactic(auto)]
 
-mod bitmaps;
 mod codecs;
-mod hashes;
 mod names;
 mod numbers;
 mod octets;
@@ -12,12 +10,8 @@ mod octets;
 use bytes::Bytes;
 use codecs::split_codec;
 use domain_base::*;
-use domain_bitmap::{CountedOctets as Counted, RtypeBitmap as Bitmap, *};
 use domain_codecs::{Codec, DecodeError, base16, base32, base64_standard};
-use domain_hasher::Nsec3Hasher;
 use domain_octets::*;
-use domain_rrsig::Timestamp;
-use domain_sha1::Sha1Hasher;
 use std::alloc::Global;
 use std::collections::{BTreeMap, HashMap};
 use std::fmt::{Debug, Display, Formatter, Result as Printed, Write};
@@ -37,9 +31,6 @@ impl Vectors for Values {
             "name" => names::answer(form, words, answers),
             "number" => numbers::answer(form, words, answers),
             "scan" => numbers::scanned(form, words, answers),
-            "bitmap" => bitmaps::answer(form, words, answers),
-            "counted" => hashes::answer(form, words, answers),
-            "digest" => hashes::digests(form, words, answers),
             _ => answers.echo("  no such subject"),
         }
     }

@@ -1,5 +1,5 @@
-//! Numbers, types, classes and algorithms as constants and as tokens, serial numbers, and times of
-//! signatures (RFC 1982; RFC 4034, section 3).
+//! Numbers, types, classes and algorithms as constants and as tokens, and serial numbers
+//! (RFC 1982).
 use super::*;
 
 /// Adds the number of each constant of a type.
@@ -111,27 +111,10 @@ pub fn scanned(form: &str, tokens: &[&str], answers: &mut Answers) -> Answered {
     let mut scanner = Tokens::new(tokens);
     scan!(
         form, scanner, answers: "type" => Rtype::scan, "class" => Class::scan, "ttl" => Ttl::scan,
-        "time" => Timestamp::scan, "key-algorithm" => SecurityAlgorithm::scan,
-        "digest-algorithm" => DigestAlgorithm::scan, _ => Nsec3HashAlgorithm::scan
+        "key-algorithm" => SecurityAlgorithm::scan, "digest-algorithm" => DigestAlgorithm::scan,
+        _ => Nsec3HashAlgorithm::scan
     );
     answers.debug("continues", &scanner.continues())
-}
-
-/// Adds a value as octets, and the numbers of the `$times` values that are read from them.
-macro_rules! say_composed {
-    ($answers:ident, $value:ident, $type:ident, $times:literal) => {{
-        let mut octets = Vec::new($answers.alloc);
-        $answers.done("composed", &$value.compose(&mut octets))?;
-        $answers.octets("octets", &octets);
-        let mut parser = Parser::new(octets.as_slice());
-        for _ in 0..$times {
-            match $type::parse(&mut parser) {
-                Ok(parsed) => $answers.show("parsed", &parsed.into_int()),
-                Err(error) => $answers.debug("refused", &error),
-            };
-        }
-        Some(())
-    }};
 }
 
 /// Adds the serial number that a text spells, in its printed form and as octets.
@@ -141,36 +124,9 @@ fn serial(text: &str, answers: &mut Answers) -> Answered {
     say_composed!(answers, serial, Serial, 1)
 }
 
-/// Adds the time that a text spells, in each of its forms, and the time that it spells as a token.
-fn time(text: &str, answers: &mut Answers) -> Answered {
-    match text.parse::<Timestamp>() {
-        Ok(stamp) => {
-            let text = stamp.display_zonefile(answers.alloc, DisplayKind::Simple);
-            say!(answers, debug "read": stamp, debug "zone file": text);
-            say_composed!(answers, stamp, Timestamp, 2)
-        }
-        Err(error) => answers.show("refused", &error),
-    };
-    let scanned = <Timestamp as FromToken>::scan(&mut Tokens::new(&[text]));
-    answers.show_made("scanned", &scanned)
-}
-
-/// Adds the time of `stamp` that is nearest to `reference`. All of them are in Base 16.
-fn near(stamp: &str, reference: &str, answers: &mut Answers) -> Answered {
-    let stamp = u32::from_str_radix(stamp, 16).unwrap_or(0);
-    let reference = u64::from_str_radix(reference, 16).unwrap_or(0);
-    match Timestamp::from(stamp).to_system_time(reference) {
-        Some(time) => {
-            let text = answers.own(format!(in answers.alloc; "{time:x}"))?;
-            answers.show("time", &text)
-        }
-        None => answers.show("time", &"none"),
-    }
-}
-
-/// Answers a vector on values of tokens, on tokens as octets, or on serial numbers and times.
+/// Answers a vector on values of tokens, on tokens as octets, or on serial numbers.
 pub fn answer(form: &str, words: &[&str], answers: &mut Answers) -> Answered {
-    let (first, second) = (word(words, 0), word(words, 1));
+    let first = word(words, 0);
     match form {
         "types" | "classes" => named(form, words, answers),
         "serial" => serial(first, answers),
@@ -185,20 +141,6 @@ pub fn answer(form: &str, words: &[&str], answers: &mut Answers) -> Answered {
                 debug "continues": scanner.continues()
             )
         }
-        "serials" => {
-            let a = first.parse().unwrap_or(0u32);
-            let b = second.parse().unwrap_or(0u32);
-            let (first, second) = (Serial::from(a), Serial::from(b));
-            let (from, to) = (Timestamp::from(a), Timestamp::from(b));
-            say!(
-                answers, debug "partial_cmp": first.partial_cmp(&second),
-                debug "canonical_cmp": first.canonical_cmp(&second),
-                debug "partial_cmp of times": from.partial_cmp(&to),
-                debug "canonical_cmp of times": from.canonical_cmp(&to)
-            )
-        }
-        "time" => time(first, answers),
-        "near" => near(first, second, answers),
         _ => scan(form, words, answers),
     }
 }

@@ -18,6 +18,7 @@ use domain_zone::{UnoccludedOwners, find_soa};
 use std::fmt::{Error, Result as Printed, Write};
 use std::io;
 use worked_lines::*;
+use worked_records::*;
 
 /// The vectors on records.
 struct Records;
