@@ -1,5 +1,5 @@
-//! Worked values of octets, texts, names and numbers. Each line of the input is a vector. Its answer
-//! is what the library makes of it.
+//! Worked values of octets, texts, names and numbers. Each line of the input is a vector. Its
+//! answer is what the library makes of it.
 #![tactic(auto)]
 
 mod codecs;
