@@ -66,6 +66,21 @@ next_of_front w t low =
       get_or-take t w (t - 16) 0 (omega arith),
     ) refl
 
+-- a word more, for one message
+pub word_more : (n : ℕ) (b w : List ℕ) (x : ℕ) → n < length w → take n w ≡ first_words b n → x ≡ word_at b (4 * n)
+    → take (n + 1) (slice_set w n x) ≡ first_words b (n + 1)
+unfolding first_words
+word_more n b w x room so_far word = rw (take_more_set w n x room, so_far, word) (ap (first_words b) (sym (add-one n)))
+
+pub scheduled_more : (n : ℕ) (b w : List ℕ) (x : ℕ) → n + 16 < length w → take (n + 16) w ≡ schedule b n → x ≡ next_word w (n + 16)
+    → take (n + 1 + 16) (slice_set w (n + 16) x) ≡ schedule b (n + 1)
+unfolding schedule
+scheduled_more n b w x room so_far word =
+    let after : n + 1 + 16 ≡ n + 16 + 1 = omega arith in
+    let made : next_word w (n + 16) ≡ next_word (schedule b n) (n + 16) =
+    sym (next_of_front w (n + 16) (omega arith)) ∙ ap (λ words. next_word words (n + 16)) so_far in
+    rw (after, take_more_set w (n + 16) x room, so_far, word ∙ made, add-one) refl
+
 -- a word more of the schedule
 pub schedule_more : (j n : ℕ) (b : List ℕ) (w : List (List ℕ)) (x : List ℕ) → n + 16 < length w
     → take (n + 16) (lane j w) ≡ schedule b n → slice_index x j ≡ next_word (lane j w) (n + 16)

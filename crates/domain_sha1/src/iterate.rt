@@ -1,22 +1,13 @@
 //! Iterated digests of four names side by side (RFC 5155, section 5).
-ghost use Rattle.std.specs.Prelude.{◌≡◌, ◌<◌, ◌≤◌, ◌+◌, ◌*◌, ◌++◌, ℕ, List, [], length, slice_index_or, take, drop};
-ghost use Rattle.sha1.specs.Sha1.{digest_bytes, first_words, initial_hash, padded_message, word_at};
+ghost use Rattle.std.specs.Prelude.{◌≡◌, ◌<◌, ◌≤◌, ◌+◌, ◌++◌, ℕ, List, [], length, slice_index_or, take, drop};
+ghost use Rattle.sha1.specs.Sha1.{digest_bytes, first_words, initial_hash, padded_message};
 ghost use Rattle.domain_sha1.specs.Lanes.{lane};
 ghost use Rattle.domain_sha1.specs.Iterated.{iterated};
 
 use crate::message::pad;
 use crate::rounds::compress;
+use crate::scalar::load_word;
 use std::simd::u32x4;
-
-/// Returns word `i` of a block.
-#[inline(always)]
-fn load_word(block: &[u8; 64], i: usize) -> u32
-    requires { i < 16 }
-    ensures { result ≡ word_at block.now (4 * i) }
-{
-    let at = 4 * i;
-    u32::from_be_bytes([block[at], block[at + 1], block[at + 2], block[at + 3]])
-}
 
 /// Writes the words of blocks to the front of a buffer.
 #[inline(always)]

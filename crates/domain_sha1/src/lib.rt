@@ -6,7 +6,8 @@
 //!
 //! Four names are hashed side by side: a vector of `std::simd` holds a word of each of four
 //! messages. `lanes` has the operations on words, `rounds` the compression function of SHA-1,
-//! `message` messages of one block, and `iterate` the iterations.
+//! `message` messages of one block, and `iterate` the iterations. `scalar` has the same for one
+//! message of one block. The crate `sha1` hashes longer ones.
 #![tactic(auto)]
 
 ghost use Rattle.std.specs.Prelude.{◌≡◌, ◌≤◌, ◌+◌, ◌++◌, ◌∷◌, [], IsTrue, IfOk, length, map};
@@ -17,10 +18,12 @@ mod iterate;
 mod lanes;
 mod message;
 mod rounds;
+mod scalar;
 
 use domain_base::Nsec3HashAlgorithm;
 use domain_hasher::{HasherError, Nsec3Hasher};
 use message::{ONE_BLOCK, digest, pad};
+use scalar::digest_one;
 use sha1::Sha1;
 use std::alloc::{AllocError, Global};
 
@@ -39,6 +42,9 @@ pub struct Sha1Hasher;
 fn salted(octets: &[u8], salt: &[u8]) -> [u8; 20]
     ensures { result ≡ sha1 (octets.now ++ salt.now) }
 {
+    if salt.len() <= ONE_BLOCK && octets.len() <= ONE_BLOCK - salt.len() {
+        return digest_one(octets, salt);
+    }
     let mut hasher = Sha1::new();
     hasher.update(octets);
     hasher.update(salt);
