@@ -1,16 +1,16 @@
 -- The result of a call with octets: a verdict or a whole answer over the records that the octets
 -- encode.
 use Rattle.std.specs.{Prelude.{◌≡◌, ℕ, Bool, ◌&&◌, ◌==◌, List, filter, map, ◌≢◌, ◌⊎◌, nat_lt, [], ◌∷◌, length, Result, Ok, Err}, List.AllByRecursion}
-use Rattle.std.specs.List.{flat_map}
+use Rattle.std.specs.{List.flat_map, Option.is_some}
 use Rattle.domain_octets.specs.Octets.{Octets}
-use Rattle.domain_names.specs.Name.{same_name, is_at_or_below, wire_of, IsName, Name}
+use Rattle.domain_names.specs.Name.{same_name, wire_of, IsName, Name}
 use Rattle.domain_nsec.specs.Chain.{Link}
 use Rattle.domain_nsec3.specs.{Chain.{HashedLink, ParamRecord, Parameters}, View.as_param_record}
 use Rattle.domain_borrowed.specs.Data.{RawRecord, nsec_record, nsec3_record, param_record, IsNsec, IsNsec3, IsParam, record_octets, IsRecord}
 use Rattle.denial_c.specs.declared.{fault.Fault.{Fault, TheVariants.{Records, OutOfMemory}}, nsec3.Telling.Telling, question.Question.Question}
 use Rattle.domain_sha1.specs.Iterated.{sha1_answer}
 use Rattle.domain_hasher.specs.declared.error.Nsec3HashError.{Nsec3HashError}
-use Rattle.domain_checker.specs.{HashedReading.IsHashedChecked, HashedVerdict.{HashedRecords, links_with, links}, Reading.IsChecked}
+use Rattle.domain_checker.specs.{HashedReading.IsHashedChecked, HashedVerdict.{HashedRecords, hash_in, links_with, links}, Reading.IsChecked}
 use Rattle.domain_checker.specs.declared.verdict.Verdict.{Verdict}
 use Rattle.domain_answer.specs.{Judged.{IsExpansionJudged, IsHashedJudged, IsJudged}, declared.answer.Answer.Answer}
 use Rattle.domain_base.specs.Types as rtypes
@@ -158,10 +158,12 @@ abbrev pub with_param : ℕ → Octets → Source
 with_param class records =
     record { are = AreWithParam class records; is_fault = IsChainFault class records }
 
--- the record is of the zone, has the hash algorithm SHA-1 and no flag other than opt-out: records
--- with others must be ignored (RFC 5155, sections 8.1 and 8.2)
+-- the owner of the record is one label in Base 32 hex right before the apex, and it has the hash
+-- algorithm SHA-1 and no flag other than opt-out: records with others must be ignored (RFC 5155,
+-- sections 8.1 and 8.2)
 abbrev pub is_known : Name → HashedLink → Bool
-is_known a k = (k.parameters.algorithm == 1) && nat_lt k.flags 2 && is_at_or_below k.owner a
+is_known a k =
+    (k.parameters.algorithm == 1) && nat_lt k.flags 2 && is_some (hash_in a k.owner)
 
 -- the parameters of the first record; without records SHA-1, no iterations and no salt
 abbrev pub first_parameters : List HashedLink → Parameters

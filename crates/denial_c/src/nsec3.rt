@@ -12,7 +12,7 @@ use crate::question::{Question, read_question};
 use domain_base::{Class, Nsec3HashAlgorithm, ParsedName, Rtype, ToName, Ttl};
 use domain_borrowed::{ReadNsec3, ReadNsec3param};
 use domain_chain_rdata::Nsec3param;
-use domain_checker::{Nsec3Index, Verdict, check_nsec3_index};
+use domain_checker::{Nsec3Index, Verdict, check_nsec3_index, is_hash_owner};
 use domain_nsec3::Nsec3Records;
 use domain_octets::{OutOfMemory, TryClone};
 use domain_record::Record;
@@ -65,15 +65,15 @@ fn chain_among<'a>(
     Ok(Nsec3Records::new(nsec3s, param))
 }
 
-/// Returns whether the record is of the zone, its algorithm is SHA-1, and it has no flag other than
-/// opt-out. Other records must be ignored (RFC 5155, sections 8.1 and 8.2).
+/// Returns whether the record is of the zone, by its owner, its algorithm is SHA-1, and it has no
+/// flag other than opt-out. Other records must be ignored (RFC 5155, sections 8.1 and 8.2).
 fn is_known(apex: &ParsedName<'_>, nsec3: &ReadNsec3<'_>) -> bool
     ensures { result ≡ is_known apex.now (as_hashed_link (λ n. n) nsec3.now) }
 {
     let hashed = nsec3.data();
     (hashed.hash_algorithm() == Nsec3HashAlgorithm::SHA1)
         & (hashed.flags() < 2)
-        & nsec3.owner().ends_with(apex)
+        & is_hash_owner(apex, nsec3.owner())
 }
 
 /// Returns these NSEC3 records without those that must be ignored. Does not allocate.

@@ -21,7 +21,7 @@ use Rattle.domain_checker.proofs.MeantLemmas.{exists_above, not_below, owner_hig
 use Rattle.domain_checker.specs.{HashedReading.{Encloser, IsEncloser, IsFoundEncloser, encloser_is_cut}, HashedVerdict.{ChainFacts, ChainsAreKnown}}
 use Rattle.domain_checker.specs.HashedVerdict.{HashedRecords, chain_records, first_cover, first_match, is_below_chain_cut, is_covered, is_hash_cover}
 use Rattle.domain_checker.specs.{HashedVerdict.{is_hash_match, is_matched, next_closer}, Verdict.{IsHashedAlike, NsecChainsAreKnown}}
-use Rattle.domain_answer.proofs.EncloserLemmas.{expanded_alike, owned_alike, closest_last, dname_occludes, exists_low, none_below, wildcard_low, last_above}
+use Rattle.domain_answer.proofs.EncloserLemmas.{asked_bound, expanded_alike, owned_alike, closest_last, dname_occludes, exists_low, none_below, wildcard_low, last_above}
 use Rattle.domain_answer.proofs.EncloserLemmas.{last_count, all_told, below_strictly, cut_occludes, cut_owns, name_of, none_above, strictly_enclosed}
 use Rattle.domain_answer.proofs.{EncloserLemmas.{strictly_other, strictly_same, highest_of, owner_exists}, ChainLemmas.{reading_proved, reading_fits}}
 use Rattle.domain_answer.{proofs.AlikeLemmas.{hashed_proved_alike, read_alike, expansion_alike, proved_expansion_alike}, specs.HashedReading.missing_closer}
@@ -31,7 +31,7 @@ use Rattle.domain_answer.specs.HashedReading.{IsWildcardRead, encloser_answer, f
 use Rattle.domain_answer.specs.HashedReading.{hashed_inside_answer, hashed_wildcard_answer, hashed_exists, hashed_zone_answer, proved_expansion, HasCloserProof}
 use Rattle.domain_answer.specs.{HashedReading.{HasEncloserProof, HashedRestsOn, wildcard_told, hashed_missing_answer, is_of_one_chain}, ZoneAnswer.is_at_parent}
 use Rattle.domain_answer.specs.ZoneAnswer.{wildcard_below, asterisk, encloser, highest_occluder, inside_answer, missing_answer, name_exists, owns_type}
-use Rattle.domain_answer.specs.{ZoneAnswer.{zone_answer, is_of_child, wildcard_types_answer, owned_answer}, declared.answer.Answer.Answer}
+use Rattle.domain_answer.specs.{ZoneAnswer.{any, asked_type, zone_answer, is_of_child, wildcard_types_answer, owned_answer}, declared.answer.Answer.Answer}
 use Rattle.domain_answer.specs.declared.answer.Answer.TheVariants.{Referral, Redirected, MayBeUnsigned, NoCloserName, NotProven, NameError, TooManyIterations}
 use Rattle.domain_answer.specs.{declared.answer.Answer.TheVariants.{OutsideZone, AtParent}, Reading.{reading, LeavesOutBelowDname, CountsWithin}}
 use Rattle.domain_answer.specs.Judged.{IsExpansionJudged, IsHashedJudged, IsJudged}
@@ -181,7 +181,7 @@ module _ (L : List ZoneRecord) (a : Name) (config : ChainConfig) (listed : List 
           (λ j. k.cut j && k.types soa (omega arith) j) ∙ soa_unlisted L a config x in
           rw (child, k.closest.matched, k.closest.asked ∙ s, not_below L a config facts.means.cuts x k.there, k.there)
           (owned_alike (encloser_is_cut a e) (is_zone_cut L a x) (contains_type e.link.bits) (nsec3_lists L a config x) e.count (length x) t k.cut
-          (λ c. k.types t bound) (k.types cname (omega arith)) (is.counts ∙ same_count is.name x s))
+          (λ c. k.types (asked_type t) (asked_bound t bound)) (k.types cname (omega arith)) (is.counts ∙ same_count is.name x s))
 
       -- below a zone cut
       at_cut : same_name is.name x ≡ false → encloser_is_cut a e ≡ true → Referral e.count ≡ inside
@@ -255,10 +255,11 @@ module _ (L : List ZoneRecord) (a : Name) (config : ChainConfig) (listed : List 
               decides (wildcard_types_answer (contains_type k.bits ns) k.bits (length en) t)
               (rw (or_left (is_matched R w) (is_covered R w) matched, of.exists)
               (expanded_alike (contains_type k.bits ns) (is_zone_cut L a w) (contains_type k.bits) (nsec3_lists L a config w) (length en) t at_cut
-              (λ u. of.types t bound) (of.types cname (omega arith)))))
+              (λ u. of.types (asked_type t) (asked_bound t bound)) (of.types cname (omega arith)))))
               (λ v known k i covers covered.
-              let absent = (cover_denies facts w v low_w (alone_w v known) k (among k i) covers).absent in
-              decides (NameError (length en)) (rw (or_right (is_matched R w) (is_covered R w) covered, absent)))
+              let denies = cover_denies facts w v low_w (alone_w v known) k (among k i) covers in
+              let flag : is_opt_out k.flags ≡ false = ap is_opt_out (denies.flags ∙ sym denied.1) ∙ out in
+              decides (told None (Some k)) (rw (flag, or_right (is_matched R w) (is_covered R w) covered, denies.absent)))
               (λ unmatched uncovered. decides (NoCloserName (length en)) (rw (unmatched, uncovered)))
 
     found_inside : (found : Option Encloser) → IsFoundEncloser R x found → (answer : Answer) → IsReadOn R x t (found_answer a found (length x) t) answer
@@ -288,7 +289,9 @@ module _ (R : HashedRecords) (x : Name) (t : ℕ) (answer : Answer) where
   wildcard_fits : (n : ℕ) → HasCloserProof R x n → n < length x → IsWildcardRead R x t n answer → Fits answer
   wildcard_fits n closer less read =
       by_told R _ (wildcard_told n t) answer Fits read (λ v known k i match there. grind (arith, common_steps))
-      (λ v known k i cover there. ((closer, there), less)) (λ unmatched uncovered. (closer, less))
+      (λ v known k i cover there.
+      choose_by Fits (is_opt_out k.flags) (MayBeUnsigned n) (NameError n) (λ out. (closer, less)) (λ out. ((closer, there), less)))
+      (λ unmatched uncovered. (closer, less))
 
   fits : (found : Option Encloser) → IsFoundEncloser R x found → IsReadOn R x t (found_answer R.apex found (length x) t) answer → Fits answer
   fits None is ends = subst Fits (sym ends) (tt, tt)
@@ -482,8 +485,14 @@ all_kept [] = refl
 all_kept (x ∷ xs) = ap (λ ys. x ∷ ys) (all_kept xs)
 
 -- at a zone cut the chains don't list RRSIG alike, where there is no DS record, and nothing is asked of that
-signed_at : (t : ℕ) (cut : Bool) → (cut && not (t == ds)) ≡ false → ((t == rrsig) && cut) ≡ false
+signed_at : (t : ℕ) (cut : Bool) → (cut && not (t == ds)) ≡ false → ((asked_type t == rrsig) && cut) ≡ false
+unfolding asked_type
 signed_at t cut e = grind (arith, common_steps)
+
+-- RRSIG is of both chains
+asked_apart : (a x : Name) (t : ℕ) → is_of_one_chain a x t ≡ false → is_of_one_chain a x (asked_type t) ≡ false
+unfolding asked_type
+asked_apart a x t apart = grind (arith, common_steps)
 
 wildcard_apart : (a x e : Name) (t : ℕ) → is_at_or_below e a ≡ true → is_of_one_chain a x t ≡ false → is_of_one_chain a (wildcard_below e) t ≡ false
 wildcard_apart a x e t low apart = grind (arith, common_steps)
@@ -554,12 +563,13 @@ module _ (L : List ZoneRecord) (a : Name) (config : ChainConfig) (x : Name) (t :
     existing : owned_answer (is_zone_cut L a x) (nsec3_lists L a config x) (length x) t ≡ owned_answer (is_zone_cut L a x) (owns_type L a assume x) (length x) t
     existing =
         owned_alike (is_zone_cut L a x) (is_zone_cut L a x) (nsec3_lists L a config x) (owns_type L a assume x) (length x) (length x) t refl
-        (λ e. types_alike L a config x t apart (signed_at t (is_zone_cut L a x) e)) (types_alike L a config x cname refl refl) refl
+        (λ e. types_alike L a config x (asked_type t) (asked_apart a x t apart) (signed_at t (is_zone_cut L a x) e)) (types_alike L a config x cname refl refl)
+        refl
 
     wildcard : hashed_wildcard_answer L a config (length zone_encloser) wild t ≡ missing_answer L a assume (length zone_encloser) wild t
     wildcard = λ i. cond (not (exists_over (owners_are L a config out leaves i) a wild)) (NameError (length zone_encloser))
         (expanded_alike (is_zone_cut L a wild) (is_zone_cut L a wild) (nsec3_lists L a config wild) (owns_type L a assume wild) (length zone_encloser) t refl
-        (λ e. types_alike L a config wild t (wildcard_apart a x zone_encloser t encloser_low apart)
+        (λ e. types_alike L a config wild (asked_type t) (asked_apart a wild t (wildcard_apart a x zone_encloser t encloser_low apart))
         (signed_at t (is_zone_cut L a wild) e))
         (types_alike L a config wild cname refl refl) i)
 

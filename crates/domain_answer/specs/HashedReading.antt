@@ -97,10 +97,11 @@ found_answer a None n t = NotProven
 found_answer a (Some e) n t = encloser_answer a e n t
 
 -- what the first match of the wildcard, or else its first cover, says of a name whose closest
--- encloser, right above the wildcard, has n labels
+-- encloser, right above the wildcard, has n labels; by a cover with the opt-out flag, the wildcard
+-- may be an unsigned delegation (RFC 5155, section 6)
 abbrev pub wildcard_told : ℕ → ℕ → Option HashedLink → Option HashedLink → Answer
 wildcard_told n t (Some k) covering = wildcard_types_answer (contains_type k.bits ns) k.bits n t
-wildcard_told n t None (Some k) = NameError n
+wildcard_told n t None (Some k) = if is_opt_out k.flags then MayBeUnsigned n else NameError n
 wildcard_told n t None None = NoCloserName n
 
 -- the hasher has a hash for the name y, and the answer is what its first match says, or else its

@@ -10,7 +10,7 @@ use Rattle.domain_answer.specs.declared.{found.{NsecCover.NsecCover, NsecFound.{
 use Rattle.domain_answer.specs.declared.answer.Answer.TheVariants.{OutsideZone, AtParent, Referral, Redirected, NoData, Wildcard, WildcardAlias, WildcardNoData}
 use Rattle.domain_answer.specs.declared.answer.Answer.TheVariants.{NameError, NoCloserName, NotProven, MayBeUnsigned, TooManyIterations, Has, NoDs, Alias}
 use Rattle.domain_answer.specs.{declared.answer.NameAnswer.{NameAnswer, TheVariants.{Given, Absent}}, ZoneAnswer.{types_answer, wildcard_types_answer}}
-use Rattle.domain_answer.specs.ZoneAnswer.{is_at_parent, wildcard_below, encloser, name_exists, zone_answer, owns_type}
+use Rattle.domain_answer.specs.ZoneAnswer.{asked_type, is_at_parent, wildcard_below, encloser, name_exists, zone_answer, owns_type}
 use Rattle.domain_bitmap.specs.Blocks.{contains_type}
 use Rattle.domain_base.specs.Types.{dname, cname, ds}
 
@@ -237,7 +237,7 @@ wildcard_of L a x = wildcard_below (encloser L a x)
 abbrev pub is_answered_below : List ZoneRecord → Name → Bool → Name → ℕ → Bool
 is_answered_below L a assume x t =
     let w = wildcard_of L a x in
-    owns_type L a assume w t || (is_zone_cut L a w && not (t == ds))
+    owns_type L a assume w (asked_type t) || (is_zone_cut L a w && not (t == ds))
 
 -- what holds if this is the zone's answer
 abbrev pub IsSo : List ZoneRecord → Name → Bool → Name → ℕ → Answer → Type 0
@@ -246,16 +246,16 @@ IsSo L a assume x t AtParent = is_at_parent a x t ≡ true
 IsSo L a assume x t (Referral n) = IsReferred L a x t n
 IsSo L a assume x t (Redirected n) = IsRedirected L a x n
 IsSo L a assume x t Has =
-    IsHere L a x t × (owns_type L a assume x t ≡ true)
+    IsHere L a x t × (owns_type L a assume x (asked_type t) ≡ true)
     × ((is_zone_cut L a x && not (t == ds)) ≡ false)
 IsSo L a assume x t NoDs =
-    IsHere L a x t × (owns_type L a assume x t ≡ false) × (is_zone_cut L a x ≡ true)
+    IsHere L a x t × (owns_type L a assume x (asked_type t) ≡ false) × (is_zone_cut L a x ≡ true)
     × ((t == ds) ≡ true)
 IsSo L a assume x t Alias =
-    IsHere L a x t × (owns_type L a assume x t ≡ false) × (is_zone_cut L a x ≡ false)
+    IsHere L a x t × (owns_type L a assume x (asked_type t) ≡ false) × (is_zone_cut L a x ≡ false)
     × (owns_type L a assume x cname ≡ true)
 IsSo L a assume x t NoData =
-    IsHere L a x t × (owns_type L a assume x t ≡ false) × (is_zone_cut L a x ≡ false)
+    IsHere L a x t × (owns_type L a assume x (asked_type t) ≡ false) × (is_zone_cut L a x ≡ false)
     × (owns_type L a assume x cname ≡ false) × (name_exists L a x ≡ true)
 IsSo L a assume x t (Wildcard n) =
     IsAbsent L a x t n × (name_exists L a (wildcard_of L a x) ≡ true)

@@ -1,7 +1,7 @@
 -- What a zone says of a name and a type, by the types that names own.
 use Rattle.std.specs.{Prelude.{ℕ, Bool, not, ◌&&◌, ◌||◌, ◌==◌, if◌then◌else◌, true, List, [], ◌∷◌, Option, Some, None, length, nat_lt}, Option.option_or}
 use Rattle.domain_octets.specs.Octets.{Octets}
-use Rattle.domain_base.specs.Types.{cname, ds, soa}
+use Rattle.domain_base.specs.Types.{cname, ds, rrsig, soa}
 use Rattle.domain_bitmap.specs.Blocks.{contains_type}
 use Rattle.domain_answer.specs.declared.answer.Answer.{Answer, TheVariants.{Referral, Has, NoDs, Alias, NoData, NotProven, Wildcard, WildcardAlias}}
 use Rattle.domain_answer.specs.declared.answer.Answer.TheVariants.{WildcardNoData, OutsideZone, AtParent, Redirected, NameError}
@@ -12,12 +12,21 @@ use Rattle.domain_checker.specs.Verdict.{closest_encloser}
 
 -- ---- What the types that a name owns, or that its record lists, answer to a question.
 
+-- a question for type ANY, 255, asks for records of each type (RFC 1035, section 3.2.3); a name that
+-- owns records and is no zone cut owns signatures
+abbrev pub any : ℕ
+any = 255
+
+-- the type that decides whether a name owns what is asked for
+unfoldable pub asked_type : ℕ → ℕ
+asked_type t = if t == any then rrsig else t
+
 -- the answer for type t at a name that has n labels and owns these types; at_cut says whether it is
 -- a zone cut
 abbrev pub owned_answer : Bool → (ℕ → Bool) → ℕ → ℕ → Answer
 owned_answer at_cut owns n t =
     if at_cut && not (t == ds) then Referral n else
-    (if owns t then Has else
+    (if owns (asked_type t) then Has else
     (if at_cut then NoDs else
     (if owns cname then Alias else NoData)))
 
@@ -25,7 +34,7 @@ owned_answer at_cut owns n t =
 -- wildcard, has n labels
 abbrev pub expanded_answer : Bool → (ℕ → Bool) → ℕ → ℕ → Answer
 expanded_answer at_cut owns n t =
-    if owns t || (at_cut && not (t == ds)) then Wildcard n else
+    if owns (asked_type t) || (at_cut && not (t == ds)) then Wildcard n else
     (if owns cname then WildcardAlias n else WildcardNoData n)
 
 -- a zone cut whose record lists SOA is the apex of a child zone, and the record is from the child

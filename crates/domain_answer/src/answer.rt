@@ -16,7 +16,7 @@ pub enum Answer {
     /// The name is strictly below an owner of a DNAME record, which leads to another name (RFC
     /// 6672, section 3.2). The number counts the labels of the owner.
     Redirected(usize),
-    /// The name owns records of the type.
+    /// The name owns records of the type, or of any type if the type is ANY (255).
     Has,
     /// The type is DS, and the name is a zone cut that owns none: an unsigned delegation (RFC 4035,
     /// section 5.2). No record that lists SOA proves it: such a record is from the child's apex
@@ -28,9 +28,9 @@ pub enum Answer {
     /// empty non-terminal (RFC 2308, section 2.2).
     NoData,
     /// The name does not exist, and the wildcard below its closest encloser owns records of the
-    /// type, or is a zone cut and the type is not DS (RFC 4592, section 3.3). The number counts the
-    /// labels of the closest encloser, as does the Labels field in the signatures of the expanded
-    /// records (RFC 4035, section 5.3.4).
+    /// type (of any type for ANY), or is a zone cut and the type is not DS (RFC 4592, section 3.3).
+    /// The number counts the labels of the closest encloser, as does the Labels field in the
+    /// signatures of the expanded records (RFC 4035, section 5.3.4).
     Wildcard(usize),
     /// The name does not exist, and the wildcard below its closest encloser owns a CNAME record,
     /// which answers in place of the type. The number counts the labels of the closest encloser.
@@ -43,8 +43,8 @@ pub enum Answer {
     /// The number counts the labels of the closest encloser.
     NameError(usize),
     /// The name, or a name above it, may be an unsigned delegation that an NSEC3 chain leaves out:
-    /// the record that would deny the name has the opt-out flag (RFC 5155, section 6). The number
-    /// counts the labels of the closest encloser.
+    /// the record that would deny the name, or the wildcard below its closest encloser, has the
+    /// opt-out flag (RFC 5155, section 6). The number counts the labels of the closest encloser.
     MayBeUnsigned(usize),
     /// The name does not exist, and the records say nothing of the wildcard below its closest
     /// encloser. That suffices for an answer that was expanded from that wildcard. The number

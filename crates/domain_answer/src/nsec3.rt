@@ -101,7 +101,12 @@ pub(crate) fn wildcard_told<O: Octets, N: ToName>(
             let types = listed.data().types();
             wildcard_types_answer(types, types.contains(Rtype::NS), count, rtype)
         }
-        Nsec3Found::NoMatch(Some(_)) => Answer::NameError(count),
+        Nsec3Found::NoMatch(Some(cover)) => {
+            if cover.data().opt_out() {
+                return Answer::MayBeUnsigned(count);
+            }
+            Answer::NameError(count)
+        }
         Nsec3Found::NoMatch(None) => Answer::NoCloserName(count),
     }
 }

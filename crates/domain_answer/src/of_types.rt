@@ -1,11 +1,26 @@
 //! What the types that a record lists say of the name that owns it.
 ghost use Rattle.std.specs.Prelude.{◌≡◌};
-ghost use Rattle.domain_answer.specs.ZoneAnswer.{types_answer, wildcard_types_answer};
+ghost use Rattle.domain_answer.specs.ZoneAnswer.{asked_type, types_answer, wildcard_types_answer};
 
 use crate::Answer;
 use domain_base::Rtype;
 use domain_bitmap::RtypeBitmap;
 use domain_octets::Octets;
+
+/// The number of the type ANY, which asks for records of each type (RFC 1035, section 3.2.3).
+const ANY: u16 = 255;
+
+/// Returns the type that decides whether a name owns what is asked for: RRSIG for ANY, since each
+/// name that owns records, except a zone cut, owns signatures.
+#[tactic(auto, unfolding(crate::specs::ZoneAnswer::asked_type))]
+fn asked_type(rtype: Rtype) -> Rtype
+    ensures { result ≡ asked_type rtype }
+{
+    if rtype.to_int() == ANY {
+        return Rtype::RRSIG;
+    }
+    rtype
+}
 
 /// Returns what types answer to a question for `rtype` at the name that owns them, which has
 /// `count` labels. `at_cut` says whether it is a zone cut. The answer is `NotProven` if the types
@@ -24,7 +39,7 @@ pub fn types_answer<O: Octets>(
     if at_cut && rtype != Rtype::DS {
         return Answer::Referral(count);
     }
-    if types.contains(rtype) {
+    if types.contains(asked_type(rtype)) {
         return Answer::Has;
     }
     if at_cut {
@@ -47,7 +62,7 @@ pub fn wildcard_types_answer<O: Octets>(
 ) -> Answer
     ensures { result ≡ wildcard_types_answer at_cut types.now count rtype }
 {
-    if types.contains(rtype) || (at_cut && rtype != Rtype::DS) {
+    if types.contains(asked_type(rtype)) || (at_cut && rtype != Rtype::DS) {
         return Answer::Wildcard(count);
     }
     if types.contains(Rtype::CNAME) {

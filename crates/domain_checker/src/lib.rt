@@ -24,5 +24,7 @@ pub use nsec::{
     NsecCheck, NsecRr, check_nsec, is_at_cut, is_before, is_inside, is_match, is_strictly_below,
     shared_if_covered,
 };
-pub use nsec3::{Nsec3Encloser, Nsec3Found, Nsec3Rr, check_nsec3, find_nsec3, find_nsec3_encloser};
+pub use nsec3::{
+    Nsec3Encloser, Nsec3Found, Nsec3Rr, check_nsec3, find_nsec3, find_nsec3_encloser, is_hash_owner,
+};
 pub use verdict::Verdict;

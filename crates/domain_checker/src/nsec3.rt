@@ -1,5 +1,5 @@
 //! What records of an NSEC3 chain say of hashes and of closest enclosers, and what they prove.
-ghost use Rattle.std.specs.{Option.option_map, List.list_all};
+ghost use Rattle.std.specs.{Option.{is_some, option_map}, List.list_all};
 ghost use Rattle.std.specs.Prelude.{◌≡◌, ◌≤◌, ◌⊎◌, ℕ, Ok, Err, None, false, IfOk, IfErr, IsErrOf, length};
 ghost use Rattle.domain_codecs.specs.Codec.{is_digit};
 ghost use Rattle.domain_names.specs.Name.{is_at_or_below, lowered, wire_of};
@@ -9,7 +9,7 @@ ghost use Rattle.domain_nsec3.specs.View.{as_hashed_link, hashed_links_of, param
 ghost use Rattle.domain_checker.specs.HashedReading.{encloser_is_cut, encloser_of, found_cover, found_match};
 ghost use Rattle.domain_checker.specs.HashedReading.{found_verdict, hash_cover_verdict, IsFound};
 ghost use Rattle.domain_checker.specs.HashedReading.{IsFoundEncloser, IsHashedChecked, IsLookedUp};
-ghost use Rattle.domain_checker.specs.HashedVerdict.{hash_with, hashed_records, is_spelling, owner_hash};
+ghost use Rattle.domain_checker.specs.HashedVerdict.{hash_in, hash_with, hashed_records, is_spelling, owner_hash};
 ghost use Rattle.domain_checker.specs.HashedVerdict.{read_label, IsFirstRefusal};
 ghost use Rattle.domain_hasher.specs.declared.error.Nsec3HashError.TheVariants as hash_error;
 
@@ -64,6 +64,19 @@ fn read_label<'b>(label: &[u8], buffer: &'b mut [u8; 63]) -> &'b [u8]
         count += 1;
     }
     &buffer[..count]
+}
+
+/// Returns whether an owner is one label in Base 32 hex right before the apex. The owners of the
+/// NSEC3 records of a zone are (RFC 5155, section 3).
+#[tactic(auto, using(std::proofs::lemmas::Grind::common_steps))]
+pub fn is_hash_owner<A: ToName, N: ToName>(apex: &A, owner: &N) -> bool
+    ensures { result ≡ is_some (hash_in (A.labels apex.now) (N.labels owner.now)) }
+{
+    let owner = owner.as_parsed();
+    let Some((label, above)) = owner.split_first() else {
+        return false;
+    };
+    above.name_eq(apex) & is_spelling(label)
 }
 
 /// An NSEC3 record (RFC 5155, section 3).

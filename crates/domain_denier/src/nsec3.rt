@@ -130,10 +130,13 @@ fn wildcard_told<O: Octets>(
     ensures { (k : HashedLink) → slice_get chain.now.links found.place ≡ Some k
         → result ≡ wildcard_told_by count rtype k found.matches }
 {
+    let listed = lend_at(chain, found.place);
     if !found.matches {
+        if listed.data().opt_out() {
+            return Answer::MayBeUnsigned(count);
+        }
         return Answer::NameError(count);
     }
-    let listed = lend_at(chain, found.place);
     let types = listed.data().types();
     wildcard_types_answer(types, types.contains(Rtype::NS), count, rtype)
 }

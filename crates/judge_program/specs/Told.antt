@@ -29,20 +29,19 @@ rests_on_records answers.TooManyIterations = false
 rests_on_records answers.NotProven = false
 rests_on_records _ = true
 
--- the number of labels of the closest encloser, if the wildcard below it was looked up for the
--- answer
+-- the number of labels of the closest encloser, if the answer is about a name that no record
+-- matches, so that the wildcard below the closest encloser matters
 abbrev pub wildcard_count : Answer → Option ℕ
 wildcard_count (answers.Wildcard n) = Some n
 wildcard_count (answers.WildcardAlias n) = Some n
 wildcard_count (answers.WildcardNoData n) = Some n
 wildcard_count (answers.NameError n) = Some n
 wildcard_count (answers.NoCloserName n) = Some n
+wildcard_count (answers.MayBeUnsigned n) = Some n
 wildcard_count _ = None
 
--- the answer rests on a cover of the next closer name: the cover has the opt-out flag, or the
--- wildcard was looked up
+-- the answer rests on a cover of the next closer name
 abbrev pub needs_next_closer : Answer → Bool
-needs_next_closer (answers.MayBeUnsigned n) = true
 needs_next_closer answer = is_some (wildcard_count answer)
 
 -- the records of the name that a response needs (RFC 4035, section 3.1.3; RFC 5155, section 7.2)
@@ -62,6 +61,7 @@ needs_of _ = needs.Nothing
 abbrev pub needs_wildcard : Answer → Bool
 needs_wildcard (answers.WildcardNoData n) = true
 needs_wildcard (answers.NameError n) = true
+needs_wildcard (answers.MayBeUnsigned n) = true
 needs_wildcard _ = false
 
 -- ---- The records that an answer rests on, and those with which a server answers; a is the apex, x

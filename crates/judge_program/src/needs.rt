@@ -16,8 +16,8 @@ pub fn rests_on_records(answer: Answer) -> bool
     }
 }
 
-/// Returns how many labels the closest encloser has if the wildcard below it was looked up, or
-/// None.
+/// Returns how many labels the closest encloser has, if the answer is about a name that no record
+/// matches, or None. The wildcard below the closest encloser then matters.
 pub fn wildcard_count(answer: Answer) -> Option<usize>
     ensures { result ≡ wildcard_count answer }
 {
@@ -27,6 +27,7 @@ pub fn wildcard_count(answer: Answer) -> Option<usize>
         Answer::WildcardNoData(count) => Some(count),
         Answer::NameError(count) => Some(count),
         Answer::NoCloserName(count) => Some(count),
+        Answer::MayBeUnsigned(count) => Some(count),
         _ => None,
     }
 }
@@ -35,10 +36,7 @@ pub fn wildcard_count(answer: Answer) -> Option<usize>
 pub fn needs_next_closer(answer: Answer) -> bool
     ensures { result ≡ needs_next_closer answer }
 {
-    match answer {
-        Answer::MayBeUnsigned(_) => true,
-        _ => wildcard_count(answer).is_some(),
-    }
+    wildcard_count(answer).is_some()
 }
 
 /// The records of a chain that a response needs for a name (RFC 4035, section 3.1.3; RFC 5155,
@@ -74,12 +72,13 @@ pub fn needs_of(answer: Answer) -> Needs
     }
 }
 
-/// Returns whether a response with this answer also needs the record of the wildcard.
+/// Returns whether a response with this answer also needs the record of the wildcard. If the name
+/// may be unsigned, a name error needs it (RFC 5155, section 7.2.2) and a referral does not.
 pub fn needs_wildcard(answer: Answer) -> bool
     ensures { result ≡ needs_wildcard answer }
 {
     match answer {
-        Answer::WildcardNoData(_) | Answer::NameError(_) => true,
+        Answer::WildcardNoData(_) | Answer::NameError(_) | Answer::MayBeUnsigned(_) => true,
         _ => false,
     }
 }
