@@ -488,10 +488,13 @@ static void try_alone(void)
     ask(judge_alone, "a.", "x.a.", A, &chain, DENIAL_JUDGED_NAME_ERROR, 1);
     ask(judge_alone, "a.", "b.", A, &chain, DENIAL_JUDGED_OUTSIDE_ZONE, 0);
     ask(expansion_alone, "a.", "x.a.", 1, &chain, DENIAL_JUDGED_NO_CLOSER_NAME, 1);
-    /* Records that are passed over tell nothing: of another algorithm, of an unknown flag, of another zone. */
+    /* Records that are skipped say nothing: with another algorithm, an unknown flag, of another zone or of a
+     * child zone, or with an owner that is no hash. */
     put_nsec3_of(&unknown, zero_owner, 2, 0, high, nothing);
     put_nsec3(&unknown, zero_owner, 2, high, nothing);
     put_salted_nsec3(&unknown, "00000000000000000000000000000000.b.", 0, high, nothing);
+    put_salted_nsec3(&unknown, "00000000000000000000000000000000.sub.a.", 0, high, nothing);
+    put_salted_nsec3(&unknown, "sub.a.", 0, high, nothing);
     ask(judge_alone, "a.", "x.a.", A, &unknown, DENIAL_JUDGED_NOT_PROVEN, 0);
     put(&unknown, chain.at, chain.length);
     ask(judge_alone, "a.", "x.a.", A, &unknown, DENIAL_JUDGED_NAME_ERROR, 1);
