@@ -18,7 +18,8 @@ use Rattle.domain_checker.proofs.MeantLemmas.{covered_under, covered_unowned, cu
 use Rattle.domain_checker.proofs.MeantLemmas.{matched_same, owner_low, owner_owns, paired_with_some, same_count, some_link, strictly_trans, top_occluder}
 use Rattle.domain_checker.{proofs.MeantLemmas.type_at, specs.{Reading.{is_at_cut, is_cover, is_match}, Verdict.{HasProof, IsAlike, NsecChainsAreKnown}}}
 use Rattle.domain_checker.specs.Verdict.{NsecFacts, has_match_or_cover, is_inside}
-use Rattle.domain_answer.proofs.{AlikeLemmas.{proved_alike, reading_alike}, EncloserLemmas.{asked_bound, expanded_alike, owned_alike, closest_last, cut_owns, none_above}}
+use Rattle.domain_answer.proofs.{AlikeLemmas.{proved_alike, reading_alike}, EncloserLemmas.{expanded_alike, owned_alike, closest_last, cut_owns, none_above}}
+use Rattle.domain_answer.proofs.EncloserLemmas.{asked_bound}
 use Rattle.domain_answer.{proofs.EncloserLemmas.{parent_below, strictly_enclosed, wildcard_low, highest_of, encloser_less, all_told}, specs.Reading.IsFound}
 use Rattle.domain_answer.specs.Reading.{IsAnswered, LeavesOutBelowDname, is_missing, knows_wildcard, proved_answer, CountsWithin, RestsOn, cover_answer}
 use Rattle.domain_answer.specs.Reading.{listed_answer, listed_both, match_answer, reading, tells_occluded, tells_occluder, wildcard_answer, wildcard_both}
@@ -187,7 +188,8 @@ module _ {L : List ZoneRecord} {a : Name} {assume : Bool} {links : List Link} (f
         let exists = matched_exists k i x m in
         rw (there exists, none_above L a x (matched_high facts k i x m), exists, child_at k i)
         (owned_alike (is_at_cut a k) (is_zone_cut L a x) (contains_type k.bits) (owns_type L a assume x) (length k.owner) (length x) t
-        (matched_cut k i x m) (λ c. matched_type k i x m (asked_type t) (asked_bound t bound)) (matched_type k i x m cname (omega arith)) (same_count k.owner x (same k i x m)))
+        (matched_cut k i x m) (λ c. matched_type k i x m (asked_type t) (asked_bound t bound)) (matched_type k i x m cname (omega arith))
+        (same_count k.owner x (same k i x m)))
 
     module _ (k : Link) (stands : Stands links k) (c : covers before k.owner k.next x ≡ true) where
       told : tells_occluded a k x ≡ is_occluded true L a x

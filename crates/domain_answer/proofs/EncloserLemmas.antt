@@ -15,7 +15,7 @@ use Rattle.domain_nsec.specs.Chain.{nsec_lists}
 use Rattle.domain_checker.proofs.{HashedVerdictLemmas.below_drop, MeantLemmas.{choose_by, cut_same, occluded_same, occludes_same, same_count, strictly_trans}}
 use Rattle.domain_checker.{proofs.MeantLemmas.top_occluder, specs.Verdict.closest_encloser}
 use Rattle.domain_answer.specs.{Reading.{IsAbsent, IsHere, IsRedirected, IsReferred, IsSo, wildcard_of}, ZoneAnswer.{expanded_answer, owned_answer, asterisk}}
-use Rattle.domain_answer.specs.ZoneAnswer.{any, asked_type, highest_occluder, wildcard_below, encloser, inside_answer, is_at_parent, missing_answer, name_exists}
+use Rattle.domain_answer.specs.ZoneAnswer.{asked_type, highest_occluder, wildcard_below, encloser, inside_answer, is_at_parent, missing_answer, name_exists}
 use Rattle.domain_answer.specs.{ZoneAnswer.{occluded_answer, owns_type, unoccluded_answer, zone_answer}, declared.answer.Answer.Answer}
 use Rattle.domain_answer.specs.declared.answer.Answer.TheVariants.{NotProven, OutsideZone, AtParent, Referral, Redirected, Has, NoDs, Alias, NoData, Wildcard}
 use Rattle.domain_answer.specs.declared.answer.Answer.TheVariants.{WildcardAlias, WildcardNoData, NameError, MayBeUnsigned, NoCloserName, TooManyIterations}
@@ -26,12 +26,12 @@ pub asked_bound : (t : ℕ) → t < 65536 → asked_type t < 65536
 unfolding asked_type
 asked_bound t bound = grind (arith, common_steps)
 
-pub owned_alike : (c d : Bool) (p q : ℕ → Bool) (m n t : ℕ) → c ≡ d → ((c && not (t == ds)) ≡ false → p (asked_type t) ≡ q (asked_type t)) → p cname ≡ q cname → m ≡ n
-    → owned_answer c p m t ≡ owned_answer d q n t
+pub owned_alike : (c d : Bool) (p q : ℕ → Bool) (m n t : ℕ) → c ≡ d → ((c && not (t == ds)) ≡ false → p (asked_type t) ≡ q (asked_type t))
+    → p cname ≡ q cname → m ≡ n → owned_answer c p m t ≡ owned_answer d q n t
 owned_alike c d p q m n t cut types alias count = grind (arith, common_steps)
 
-pub expanded_alike : (c d : Bool) (p q : ℕ → Bool) (n t : ℕ) → c ≡ d → ((c && not (t == ds)) ≡ false → p (asked_type t) ≡ q (asked_type t)) → p cname ≡ q cname
-    → expanded_answer c p n t ≡ expanded_answer d q n t
+pub expanded_alike : (c d : Bool) (p q : ℕ → Bool) (n t : ℕ) → c ≡ d → ((c && not (t == ds)) ≡ false → p (asked_type t) ≡ q (asked_type t))
+    → p cname ≡ q cname → expanded_answer c p n t ≡ expanded_answer d q n t
 expanded_alike c d p q n t cut types alias = grind (arith, common_steps)
 
 -- where all is told that is needed, the answer v is proved

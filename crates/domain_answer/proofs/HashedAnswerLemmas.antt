@@ -21,7 +21,8 @@ use Rattle.domain_checker.proofs.MeantLemmas.{exists_above, not_below, owner_hig
 use Rattle.domain_checker.specs.{HashedReading.{Encloser, IsEncloser, IsFoundEncloser, encloser_is_cut}, HashedVerdict.{ChainFacts, ChainsAreKnown}}
 use Rattle.domain_checker.specs.HashedVerdict.{HashedRecords, chain_records, first_cover, first_match, is_below_chain_cut, is_covered, is_hash_cover}
 use Rattle.domain_checker.specs.{HashedVerdict.{is_hash_match, is_matched, next_closer}, Verdict.{IsHashedAlike, NsecChainsAreKnown}}
-use Rattle.domain_answer.proofs.EncloserLemmas.{asked_bound, expanded_alike, owned_alike, closest_last, dname_occludes, exists_low, none_below, wildcard_low, last_above}
+use Rattle.domain_answer.proofs.EncloserLemmas.{expanded_alike, owned_alike, closest_last, dname_occludes, exists_low, none_below, wildcard_low, last_above}
+use Rattle.domain_answer.proofs.EncloserLemmas.{asked_bound}
 use Rattle.domain_answer.proofs.EncloserLemmas.{last_count, all_told, below_strictly, cut_occludes, cut_owns, name_of, none_above, strictly_enclosed}
 use Rattle.domain_answer.proofs.{EncloserLemmas.{strictly_other, strictly_same, highest_of, owner_exists}, ChainLemmas.{reading_proved, reading_fits}}
 use Rattle.domain_answer.{proofs.AlikeLemmas.{hashed_proved_alike, read_alike, expansion_alike, proved_expansion_alike}, specs.HashedReading.missing_closer}
@@ -31,7 +32,7 @@ use Rattle.domain_answer.specs.HashedReading.{IsWildcardRead, encloser_answer, f
 use Rattle.domain_answer.specs.HashedReading.{hashed_inside_answer, hashed_wildcard_answer, hashed_exists, hashed_zone_answer, proved_expansion, HasCloserProof}
 use Rattle.domain_answer.specs.{HashedReading.{HasEncloserProof, HashedRestsOn, wildcard_told, hashed_missing_answer, is_of_one_chain}, ZoneAnswer.is_at_parent}
 use Rattle.domain_answer.specs.ZoneAnswer.{wildcard_below, asterisk, encloser, highest_occluder, inside_answer, missing_answer, name_exists, owns_type}
-use Rattle.domain_answer.specs.{ZoneAnswer.{any, asked_type, zone_answer, is_of_child, wildcard_types_answer, owned_answer}, declared.answer.Answer.Answer}
+use Rattle.domain_answer.specs.{ZoneAnswer.{asked_type, zone_answer, is_of_child, wildcard_types_answer, owned_answer}, declared.answer.Answer.Answer}
 use Rattle.domain_answer.specs.declared.answer.Answer.TheVariants.{Referral, Redirected, MayBeUnsigned, NoCloserName, NotProven, NameError, TooManyIterations}
 use Rattle.domain_answer.specs.{declared.answer.Answer.TheVariants.{OutsideZone, AtParent}, Reading.{reading, LeavesOutBelowDname, CountsWithin}}
 use Rattle.domain_answer.specs.Judged.{IsExpansionJudged, IsHashedJudged, IsJudged}

@@ -22,6 +22,7 @@ use Rattle.domain_answer.specs.{HashedReading.{tells_encloser, tells_wildcard, I
 use Rattle.domain_answer.specs.{ZoneAnswer.wildcard_below, declared.answer.Answer.{Answer, TheVariants.{NoCloserName, NotProven}}}
 use Rattle.domain_denier.proofs.HashedPickLemmas.{IsPickedRead, none_read, AreAmong, all_among, among_contained, contained, in_place, no_match, others_among}
 use Rattle.domain_denier.{proofs.HashedPickLemmas.{picked_among, read_is, without_others}, specs.HashedPicked.{AreHashedNeeded, AreHashedThere, IsHashedDenial}}
+use Rattle.domain_answer.specs.declared.answer.Answer.TheVariants.{AtParent}
 use Rattle.domain_denier.specs.HashedPicked.{IsHashedDenied, IsHashedWhole, TellOfTheirParts, all_records, hashed_picked, picked_without, without_records}
 use Rattle.domain_denier.specs.{HashedPicked.{IsOfHash, tells_hash, IsOfZone as IsOfSomeZone, IsSoleOf}, declared.nsec3.Nsec3Denial.Nsec3Denial}
 use Rattle.domain_denier.specs.Picked.{at_place}
@@ -250,7 +251,7 @@ module _ (L : List ZoneRecord) (config : ChainConfig) (chain : ChainRecords) (x 
 
       needed_is : AreHashedNeeded L a config links x t d
       needed_is = record {
-        name = λ place tells. elim (cases_eq read.f.place place) [
+        name = λ place tells here. elim (cases_eq read.f.place place) [
           | inl h ↦ subst (λ q. hashed_proved_answer L a config (picked_without links q d) x t ≡ NotProven) h without_encloser
           | inr h ↦
               let apart : d.of_encloser ≡ Some place → ⊥ = λ e. h (same_Some read.f.place place (sym read.encloser ∙ e)) in
@@ -296,6 +297,7 @@ module _ (L : List ZoneRecord) (config : ChainConfig) (chain : ChainRecords) (x 
           record {
             zone = says;
             proved = sym (proved_is (hashed_picked links d) (picked_among links d) d.answer read.picked) ∙ says;
+            own = λ inside. (read.f.place, read.encloser);
             parts = parts_are;
             needed = needed_is;
           }
@@ -326,3 +328,30 @@ module _ (knows : ChainsAreKnown) (hash : Hash) (chain : ChainRecords) (x : Name
     exact = λ needs L config whole. none_read (all_records hash chain) x t (none (L, config, whole));
     there = grind (arith, common_steps);
   }
+
+-- where the parent answers, the record of the apex, as it is picked for another type
+pub denied_at_parent : (hash : Hash) (chain : ChainRecords) (x : Name) (s t : ℕ) (own d : Nsec3Denial) → is_at_or_below x chain.param.owner ≡ true
+    → is_at_parent chain.param.owner x t ≡ true → IsHashedDenied hash chain x s (Ok own) → d.answer ≡ AtParent → d.of_encloser ≡ own.of_encloser
+    → d.of_next_closer ≡ None → d.of_wildcard ≡ None → IsHashedDenied hash chain x t (Ok d)
+denied_at_parent hash chain x s t own d low at picked answer encloser closer wildcard = record {
+  outside = λ out. absurd (false≢true (sym out ∙ low));
+  parent = λ inside here. record { answer = answer; next_closer = closer; wildcard = wildcard };
+  denial = λ L config whole asked.
+      let n = picked.denial L config whole asked in
+      record {
+        zone = rw (low, at) answer;
+        proved = rw (low, at) refl;
+        own = λ inside. let o = n.own inside in (o.0, encloser ∙ o.1);
+        parts = record {
+          encloser = λ place e. n.parts.encloser place (sym encloser ∙ e);
+          next_closer = λ place e. absurd (let none = closer in cc);
+          wildcard = λ place e. absurd (let none = wildcard in cc);
+        };
+        needed = record {
+          name = λ place tells here. absurd (false≢true (sym here ∙ at));
+          wildcard = λ place e apart. absurd (let none = wildcard in cc);
+        };
+      };
+  exact = λ needs. absurd (grind (arith, common_steps));
+  there = let inside = picked.there in grind (arith, common_steps);
+}

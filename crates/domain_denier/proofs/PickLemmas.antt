@@ -177,8 +177,16 @@ module _ (a : Name) (listed : List Link) (n : ℕ) (w v : Name) (t : ℕ) (whole
 -- where none is picked
 pub none_picked : (links : List Link) (a x : Name) (t : ℕ) (d : NsecDenial) → d.answer ≡ reading a [] x t → d.of_name ≡ None → d.of_wildcard ≡ None
     → ((L : List ZoneRecord) (config : GenerateNsecConfig) → IsWhole L a config links
-    → reading a [] x t ≡ zone_answer L a config.assume_dnskeys_will_be_added x t) → IsDenial links a x t d
-none_picked links a x t d exact name wildcard zone = grind (arith, common_steps)
+    → reading a [] x t ≡ zone_answer L a config.assume_dnskeys_will_be_added x t)
+    → ((L : List ZoneRecord) (config : GenerateNsecConfig) → IsWhole L a config links → is_at_or_below x a ≡ true → ⊥) → IsDenial links a x t d
+none_picked links a x t d exact name wildcard zone none = record {
+  zone = λ L config whole. exact ∙ zone L config whole;
+  own = λ L config whole low. absurd (none L config whole low);
+  needed = λ L config whole. record { name = λ low parent. absurd (none L config whole low); wildcard = λ some. absurd (some wildcard) };
+  there = grind (arith, common_steps);
+  exact = grind (arith, common_steps);
+  outside = λ e. (name, wildcard);
+}
 
 module _ (knows : NsecChainsAreKnown) (links : List Link) (L : List ZoneRecord) (a : Name) (config : GenerateNsecConfig) (whole : IsWhole L a config links)
     (x : Name) (t : ℕ) (answered : (listed : List Link) → IsAnswered listed a x t (reading a listed x t)) (under : is_at_or_below x a ≡ true) where
@@ -278,7 +286,15 @@ module _ (knows : NsecChainsAreKnown) (links : List Link) (a x : Name) (t : ℕ)
     (answered : (listed : List Link) → IsAnswered listed a x t (reading a listed x t)) (under : is_at_or_below x a ≡ true) (p : ℕ) where
   pub denied_by_one : p < length links → IsFound links p x → (answer : Answer) → reading a (at_place links (Some p)) x t ≡ answer
       → ((n : ℕ) → answer ≢ NoCloserName n) → IsDenial links a x t (record { answer = answer; of_name = Some p; of_wildcard = None })
-  denied_by_one inside found answer is never = grind (arith, common_steps, one_says)
+  denied_by_one inside found answer is never = record {
+    zone = λ L config whole.
+        sym is ∙ one_says knows links L a config whole x t answered under p (found L a config whole under) (λ n e. never n (sym is ∙ e));
+    own = λ L config whole low. (p, refl, found L a config whole low);
+    needed = λ L config whole. record { name = λ low parent. rw (low, parent) refl; wildcard = λ some. absurd (some refl) };
+    there = grind (arith, common_steps);
+    exact = grind (arith, common_steps);
+    outside = λ e. absurd (false≢true (sym e ∙ under));
+  }
 
   pub denied_by_both : p < length links → IsFound links p x → (count : ℕ) → reading a (at_place links (Some p)) x t ≡ NoCloserName count
       → (q : ℕ) → q < length links → IsFound links q (wildcard_below (last_labels count x)) → (answer : Answer)
@@ -289,6 +305,7 @@ module _ (knows : NsecChainsAreKnown) (links : List Link) (a x : Name) (t : ℕ)
         let of = found L a config whole under in
         let under_w = wildcard_under knows links L a config whole x t answered under p of count says in
         exact ∙ both_say knows links L a config whole x t answered under p of count says q (found_q L a config whole under_w);
+    own = λ L config whole low. (p, refl, found L a config whole low);
     needed = λ L config whole.
         let of = found L a config whole under in
         let under_w = wildcard_under knows links L a config whole x t answered under p of count says in

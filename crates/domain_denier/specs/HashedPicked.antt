@@ -79,11 +79,11 @@ picked_without links gone d = hashed_picked links (without gone d)
 abbrev pub AreHashedThere : List HashedLink → Nsec3Denial → Type 0
 AreHashedThere links d = (place : ℕ) → IsPicked d place → place < length links
 
--- without any one of the records of the name, nothing is proved; without a record that was picked
--- only for the wildcard, only that the name does not exist
+-- without any one of the records of the name, nothing is proved, unless the parent zone answers;
+-- without a record that was picked only for the wildcard, only that the name does not exist
 pub record AreHashedNeeded (L : List ZoneRecord) (a : Name) (config : ChainConfig)
     (links : List HashedLink) (x : Name) (t : ℕ) (d : Nsec3Denial) : Type 0 where
-  pub name : (place : ℕ) → TellsOfName d place
+  pub name : (place : ℕ) → TellsOfName d place → is_at_parent a x t ≡ false
       → hashed_proved_answer L a config (picked_without links place d) x t ≡ NotProven
   pub wildcard : (place : ℕ) → d.of_wildcard ≡ Some place → ¬ (TellsOfName d place)
       → hashed_proved_answer L a config (picked_without links place d) x t
@@ -110,9 +110,18 @@ pub record IsHashedDenial (L : List ZoneRecord) (config : ChainConfig) (chain : 
   -- the records prove it
   pub proved : hashed_proved_answer L chain.param.owner config (hashed_picked chain.links d) x t
       ≡ hashed_zone_answer L chain.param.owner config x t
+  -- for a name in the zone there is a record of the closest encloser, which is the apex itself if
+  -- the parent zone answers
+  pub own : is_at_or_below x chain.param.owner ≡ true → (place : ℕ) × (d.of_encloser ≡ Some place)
   -- each has its role, and each is needed
   pub parts : TellOfTheirParts L chain.param.owner config chain.links x d
   pub needed : AreHashedNeeded L chain.param.owner config chain.links x t d
+
+-- the parent zone answers, and at most one record was picked: that of the apex
+pub record IsAtParent (d : Nsec3Denial) : Type 0 where
+  pub answer : d.answer ≡ AtParent
+  pub next_closer : d.of_next_closer ≡ None
+  pub wildcard : d.of_wildcard ≡ None
 
 -- the contract of what is picked from a chain with this hash, or of the error in its place
 pub record IsHashedDenied (hash : Hash) (chain : ChainRecords) (x : Name) (t : ℕ)
@@ -120,7 +129,7 @@ pub record IsHashedDenied (hash : Hash) (chain : ChainRecords) (x : Name) (t : �
   pub outside : is_at_or_below x chain.param.owner ≡ false
       → result ≡ Ok (without_records OutsideZone)
   pub parent : is_at_or_below x chain.param.owner ≡ true
-      → is_at_parent chain.param.owner x t ≡ true → result ≡ Ok (without_records AtParent)
+      → is_at_parent chain.param.owner x t ≡ true → IfOk result IsAtParent
   -- for the chain of any zone in which no other name has a hash that is looked up: the answer is
   -- what that zone says, the records prove it, each has its role, and each is needed
   pub denial : IfOk result (λ d. (L : List ZoneRecord) (config : ChainConfig)

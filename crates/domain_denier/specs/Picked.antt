@@ -72,6 +72,9 @@ pub record IsDenial (links : List Link) (a x : Name) (t : ℕ) (d : NsecDenial) 
   -- for the chain of any zone: the answer is what that zone says
   pub zone : (L : List ZoneRecord) (config : GenerateNsecConfig) → IsWhole L a config links
       → d.answer ≡ zone_answer L a config.assume_dnskeys_will_be_added x t
+  -- for a name in the zone the first record matches or covers it, also if the parent zone answers
+  pub own : (L : List ZoneRecord) (config : GenerateNsecConfig) → IsWhole L a config links
+      → is_at_or_below x a ≡ true → (place : ℕ) × (d.of_name ≡ Some place) × IsOf links place x
   -- and each record is needed
   pub needed : (L : List ZoneRecord) (config : GenerateNsecConfig) → IsWhole L a config links
       → AreNeeded links a x t d

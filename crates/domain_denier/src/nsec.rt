@@ -110,8 +110,9 @@ fn pick<A: ToName, N: ToName, M: ToName>(
 /// too. Put into the response:
 ///
 /// - both, for a name error or a wildcard without data;
-/// - only the first, for no data, for an unsigned delegation (`NoDs`; also in a referral, if you
-///   ask for the zone cut), or if the answer was expanded from a wildcard;
+/// - only the first, for no data, for DS at the apex (`AtParent`), for an unsigned delegation
+///   (`NoDs`; also in a referral, if you ask for the zone cut), or if the answer was expanded from
+///   a wildcard;
 /// - none, for a positive answer or a redirection.
 ///
 /// A name outside the zone has none.

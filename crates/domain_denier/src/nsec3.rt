@@ -25,7 +25,7 @@ pub struct Nsec3Denial {
     /// What the zone says of the name and the type.
     pub answer: Answer,
     /// The record that matches the closest encloser, which may be the name itself. None if the name
-    /// is outside the zone, or the parent zone answers.
+    /// is outside the zone.
     pub of_encloser: Option<usize>,
     /// The record that covers the next closer name, which is one label longer, if the answer rests
     /// on it.
@@ -171,6 +171,50 @@ fn wildcard_answer<O: Octets, M: ToName, H: Nsec3Hasher>(
     Ok((wildcard_told(chain, count, rtype, found), found.place))
 }
 
+/// Picks records for a name in the zone, unless the parent zone answers.
+fn pick<O: Octets, M: ToName, H: Nsec3Hasher>(
+    alloc: Global,
+    chain: &Nsec3Chain<'_, O>,
+    name: &M,
+    rtype: Rtype,
+    hasher: &H,
+) -> Result<Nsec3Denial, Nsec3HashError>
+    requires low { is_at_or_below (M.labels name.now) chain.now.param.owner ≡ true }
+    requires here { is_at_parent chain.now.param.owner (M.labels name.now) rtype ≡ false }
+    ensures denied { IsHashedDenied (hash_by (H.answer hasher.now) chain.now.param.parameters)
+        chain.now (M.labels name.now) rtype result }
+    ensures err { IfErr result (IsNoHash (IsRefusedAbove chain.now.param.owner
+        (hash_by (H.answer hasher.now) chain.now.param.parameters) (M.labels name.now))
+        (H.takes_memory hasher.now)) }
+{
+    // By this law what the records say is what the zone says, for a type of 16 bits.
+    hashed_chains_are_known();
+    let _number = rtype.to_int();
+    if chain.is_empty() {
+        return Ok(without_records(Answer::NotProven));
+    }
+    let found = find_encloser(alloc, chain, name, hasher)?;
+    let Some(encloser) = found else {
+        return Ok(without_records(Answer::NotProven));
+    };
+    let (answer, of_next_closer) = first_answer(chain, encloser, name, rtype);
+    let first = Nsec3Denial {
+        answer,
+        of_encloser: Some(encloser.place),
+        of_next_closer,
+        of_wildcard: None,
+    };
+    let Answer::NoCloserName(count) = answer else {
+        return Ok(first);
+    };
+    let (answer, place) = wildcard_answer(alloc, chain, name, rtype, count, hasher)?;
+    Ok(Nsec3Denial {
+        answer,
+        of_wildcard: Some(place),
+        ..first
+    })
+}
+
 /// Returns the records of an NSEC3 chain with which a server answers a question about a name and a
 /// type (RFC 5155, section 7.2), and what they prove: at most three.
 ///
@@ -181,8 +225,8 @@ fn wildcard_answer<O: Octets, M: ToName, H: Nsec3Hasher>(
 ///
 /// - all that are returned, for a name error or a wildcard without data (sections 7.2.2 and 7.2.5),
 ///   for no data or an unsigned delegation (`NoDs`; also in a referral, if you ask for the zone
-///   cut), or if a delegation was left out of the chain (`MayBeUnsigned`, sections 7.2.4 and
-///   7.2.7);
+///   cut), for DS at the apex (`AtParent`), or if a delegation was left out of the chain
+///   (`MayBeUnsigned`, sections 7.2.4 and 7.2.7);
 /// - only the second, if the answer was expanded from a wildcard (section 7.2.6);
 /// - none, for a positive answer or a redirection.
 ///
@@ -198,7 +242,7 @@ fn wildcard_answer<O: Octets, M: ToName, H: Nsec3Hasher>(
 /// (RFC 6672, section 2.4). The apex and the parameters are those of the chain's NSEC3PARAM record.
 /// Names are hashed from the name towards the apex, up to the first that a record matches, and then
 /// the wildcard if it is needed. None is hashed twice, unless the next closer name is that
-/// wildcard. No name is hashed if the name is outside the zone or the parent answers. For each
+/// wildcard. No name is hashed if the name is outside the zone. For each
 /// hash, about twenty hashes are compared in a chain of a million. There is no limit of iterations.
 /// Allocates nothing but the hasher's digests, one at a time.
 ///
@@ -226,32 +270,12 @@ pub fn deny_nsec3<O: Octets, M: ToName, H: Nsec3Hasher>(
         return Ok(without_records(Answer::OutsideZone));
     }
     if is_at_parent(apex, name, rtype) {
-        return Ok(without_records(Answer::AtParent));
+        // The apex's own record, as for any other type (RFC 5155, section 7.2.4).
+        let own = pick(alloc, chain, name, Rtype::SOA, hasher)?;
+        return Ok(Nsec3Denial {
+            of_encloser: own.of_encloser,
+            ..without_records(Answer::AtParent)
+        });
     }
-    // By this law what the records say is what the zone says, for a type of 16 bits.
-    hashed_chains_are_known();
-    let _number = rtype.to_int();
-    if chain.is_empty() {
-        return Ok(without_records(Answer::NotProven));
-    }
-    let found = find_encloser(alloc, chain, name, hasher)?;
-    let Some(encloser) = found else {
-        return Ok(without_records(Answer::NotProven));
-    };
-    let (answer, of_next_closer) = first_answer(chain, encloser, name, rtype);
-    let first = Nsec3Denial {
-        answer,
-        of_encloser: Some(encloser.place),
-        of_next_closer,
-        of_wildcard: None,
-    };
-    let Answer::NoCloserName(count) = answer else {
-        return Ok(first);
-    };
-    let (answer, place) = wildcard_answer(alloc, chain, name, rtype, count, hasher)?;
-    Ok(Nsec3Denial {
-        answer,
-        of_wildcard: Some(place),
-        ..first
-    })
+    pick(alloc, chain, name, rtype, hasher)
 }

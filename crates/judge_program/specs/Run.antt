@@ -8,7 +8,7 @@ use Rattle.domain_answer.specs.declared.answer.Answer.{Answer}
 use Rattle.domain_checker.specs.HashedVerdict.{links_with}
 use Rattle.denial_program.specs.{Run.IsOver, declared.{command.Question.Question, fault.DenialFault.{DenialFault, TheVariants.{Usage, Unprepared}}}}
 use Rattle.denial_program.specs.declared.fault.DenialFault.TheVariants.{OutOfMemory}
-use Rattle.judge_program.specs.{Command.{Asks, IsCommand, IsNoCommand}, Judged.{IsNotNsec3Judged, IsNsec3Judged, IsNsecJudged}, Told.rests_on_records}
+use Rattle.judge_program.specs.{Command.{Asks, IsCommand, IsNoCommand}, Judged.{IsNotNsec3Judged, IsNsec3Judged, IsNsecJudged}, Told.shows_records}
 use Rattle.judge_program.specs.{Told.{below_text, nsec_tellings, AreNsec3Told, Tellings}, Text.first_line, declared.command.ChainKind.ChainKind}
 use Rattle.judge_program.specs.declared.{command.{ChainKind.TheVariants.{Nsec, Nsec3}, Nsec3Options.Nsec3Options}, shown.Shown.Shown}
 
@@ -27,7 +27,7 @@ pub record IsNsec3Text (hashes : HasherAnswer) (given : List RawRecord) (q : Que
   pub answer : Answer
   pub judged : IsNsec3Judged hashes given q asked answer
   pub told : Option Tellings
-  pub are : AreNsec3Told (rests_on_records answer) shown asked.labels judged.param
+  pub are : AreNsec3Told (shows_records answer) shown asked.labels judged.param
       (links_with q.apex judged.param.parameters hashes judged.links) q.name answer told
   pub is : text ≡ first_line shown q.name answer ++ below_text shown answer told
 

@@ -21,13 +21,13 @@ use Rattle.judge_program.specs.declared.shown.Shown.TheVariants as shows
 
 -- ---- The records that an answer rests on, and which of them a response needs.
 
--- the answer rests on records
-abbrev pub rests_on_records : Answer → Bool
-rests_on_records answers.OutsideZone = false
-rests_on_records answers.AtParent = false
-rests_on_records answers.TooManyIterations = false
-rests_on_records answers.NotProven = false
-rests_on_records _ = true
+-- records are shown with the answer: those that it rests on or, if the parent zone answers, that of
+-- the apex, with which a server of this zone answers (RFC 4035, section 3.1.4.1)
+abbrev pub shows_records : Answer → Bool
+shows_records answers.OutsideZone = false
+shows_records answers.TooManyIterations = false
+shows_records answers.NotProven = false
+shows_records _ = true
 
 -- the number of labels of the closest encloser, if the answer is about a name that no record
 -- matches, so that the wildcard below the closest encloser matters
@@ -47,6 +47,7 @@ needs_next_closer answer = is_some (wildcard_count answer)
 -- the records of the name that a response needs (RFC 4035, section 3.1.3; RFC 5155, section 7.2)
 abbrev pub needs_of : Answer → Needs
 needs_of (answers.Referral n) = needs.Cut
+needs_of answers.AtParent = needs.Own
 needs_of answers.NoDs = needs.Own
 needs_of answers.NoData = needs.Own
 needs_of (answers.Wildcard n) = needs.Closer
@@ -161,7 +162,7 @@ tellings_of p =
 -- what NSEC records say, if the answer rests on some
 abbrev pub nsec_tellings : Name → List Link → Name → Answer → Option Tellings
 nsec_tellings a listed x answer =
-    if rests_on_records answer
+    if shows_records answer
     then Some (record {
       matched = nsec_told a listed Asked x;
       closer = None;

@@ -1,17 +1,17 @@
 //! The records that an answer rests on, and those with which a server answers.
 ghost use Rattle.std.specs.Prelude.{◌≡◌};
-ghost use Rattle.judge_program.specs.Told.{needs_next_closer, needs_of, needs_wildcard, rests_on_records};
+ghost use Rattle.judge_program.specs.Told.{needs_next_closer, needs_of, needs_wildcard, shows_records};
 ghost use Rattle.judge_program.specs.Told.{wildcard_count};
 
 use domain_answer::Answer;
 
-/// Returns whether an answer rests on records.
-pub fn rests_on_records(answer: Answer) -> bool
-    ensures { result ≡ rests_on_records answer }
+/// Returns whether records are shown with an answer: those that it rests on or, if the parent zone
+/// answers, that of the apex, with which a server of this zone answers (RFC 4035, section 3.1.4.1).
+pub fn shows_records(answer: Answer) -> bool
+    ensures { result ≡ shows_records answer }
 {
     match answer {
-        Answer::OutsideZone | Answer::AtParent | Answer::TooManyIterations | Answer::NotProven =>
-            false,
+        Answer::OutsideZone | Answer::TooManyIterations | Answer::NotProven => false,
         _ => true,
     }
 }
@@ -61,10 +61,10 @@ pub fn needs_of(answer: Answer) -> Needs
     ensures { result ≡ needs_of answer }
 {
     match answer {
-        Answer::OutsideZone | Answer::AtParent => Needs::Nothing,
+        Answer::OutsideZone => Needs::Nothing,
         Answer::Referral(_) => Needs::Cut,
         Answer::Redirected(_) | Answer::Has | Answer::Alias => Needs::Nothing,
-        Answer::NoDs | Answer::NoData => Needs::Own,
+        Answer::AtParent | Answer::NoDs | Answer::NoData => Needs::Own,
         Answer::Wildcard(_) | Answer::WildcardAlias(_) => Needs::Closer,
         Answer::WildcardNoData(_) | Answer::NameError(_) => Needs::Both,
         Answer::MayBeUnsigned(_) | Answer::NoCloserName(_) => Needs::Both,

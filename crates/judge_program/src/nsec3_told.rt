@@ -5,13 +5,13 @@ ghost use Rattle.domain_nsec3.specs.View.{as_hashed_link, as_param_record};
 ghost use Rattle.domain_checker.specs.{HashedReading.encloser_of, HashedVerdict.IsFirstRefusal};
 ghost use Rattle.denial_program.specs.declared.fault.DenialFault.TheVariants.{OutOfMemory as Memory};
 ghost use Rattle.judge_program.specs.Judged.{records_of, IsAsked, IsRefusalAsked, IsRefusedWith};
-ghost use Rattle.judge_program.specs.Told.{rests_on_records, wildcard_count, closer_told, encloser_role};
+ghost use Rattle.judge_program.specs.Told.{shows_records, wildcard_count, closer_told, encloser_role};
 ghost use Rattle.judge_program.specs.Told.{encloser_told, expansion_tellings, finding, nsec3_told, telling_of};
 ghost use Rattle.judge_program.specs.Told.{tellings_of, told_where, wildcard_asked, AreNsec3Told, AreWhole};
 ghost use Rattle.judge_program.specs.Told.{IsRefusalBelow, AnyLink.hashed};
 
 use crate::command::Nsec3Options;
-use crate::needs::{needs_next_closer, rests_on_records};
+use crate::needs::{needs_next_closer, shows_records};
 use crate::nsec_told::wildcard_asked;
 use crate::role::Role;
 use crate::shown::Shown;
@@ -213,13 +213,13 @@ impl<'i, 'r, 'a, H: Nsec3Hasher> Inquiry<'i, 'r, 'a, H> {
         shown: Shown,
         answer: Answer,
     ) -> Result<Option<Parts<'r, 'a>>, DenialFault>
-        ensures ok { IfOk result (λ parts. AreNsec3Told (rests_on_records answer) shown labels
+        ensures ok { IfOk result (λ parts. AreNsec3Told (shows_records answer) shown labels
             (as_param_record (λ n. n) self.now.nsec3param.now) (records_of H.answer self.now)
             self.now.question.now.name answer (option_map tellings_of parts)) }
         ensures err { IfErr result (IsRefusedWith (IsRefusalBelow labels
             (records_of H.answer self.now) self.now.question.now.name)) }
     {
-        if shown == Shown::Answer || !rests_on_records(answer) {
+        if shown == Shown::Answer || !shows_records(answer) {
             return Ok(None);
         }
         match labels {

@@ -4,7 +4,7 @@ ghost use Rattle.domain_nsec.specs.Chain.{links_of};
 ghost use Rattle.judge_program.specs.Told.{wildcard_count, nsec_told, nsec_tellings, telling_of, tellings_of};
 ghost use Rattle.judge_program.specs.Told.{told_where, wildcard_asked};
 
-use crate::needs::{rests_on_records, wildcard_count};
+use crate::needs::{shows_records, wildcard_count};
 use crate::role::Role;
 use crate::told::{Listed, Part, Parts};
 use denial_program::{Question, ZoneName};
@@ -78,7 +78,7 @@ pub fn nsec_parts<'r, 'a>(
     ensures { option_map tellings_of result ≡ nsec_tellings question.now.apex
         (links_of (λ n. n) nsecs.now) question.now.name answer }
 {
-    if !rests_on_records(answer) {
+    if !shows_records(answer) {
         return None;
     }
     Some(Parts {

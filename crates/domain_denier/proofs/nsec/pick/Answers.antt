@@ -3,15 +3,19 @@ use Rattle.domain_names.specs.Name.{is_at_or_below}
 use Rattle.domain_nsec.specs.Chain.{Link}
 use Rattle.domain_answer.{proofs.ChainLemmas.{given_is, given_never}, specs.{Reading.{IsAnswered, reading}, declared.answer.Answer.TheVariants.NoCloserName}}
 use Rattle.domain_denier.proofs.PickLemmas.{outside_only, said_inside, told_of, untold_of, denied_by_both, denied_by_one, none_picked}
-use Rattle.domain_denier.{proofs.nsec.pick.{Given.Over, Goals.{Else-is_outside, In-Untold}}, specs.Picked.at_place}
+use Rattle.domain_denier.{proofs.nsec.pick.{Given.Over, Goals.{Else-is_outside, In-Untold}}, specs.Picked.{at_place, IsWhole}}
+use Rattle.domain_nsec.specs.declared.config.GenerateNsecConfig.{GenerateNsecConfig}
+use Rattle.domain_zone.specs.Zone.{ZoneRecord}
 use Rattle.domain_denier.proofs.nsec.pick.Goals as goal
 
 pub returns-then-is_empty : goal.returns-then-is_empty
 returns-then-is_empty g c =
     let none = c.judge_none.ensures in
-    none_picked _ _ _ _ _ none.answer none.name none.wildcard (λ L config whole.
+    let never : (L : List ZoneRecord) (config : GenerateNsecConfig) → IsWhole L (g.A.ToName.labels c.args.apex.now) config c.args.chain.now → ⊥ =
+    λ L config whole.
     let cycle = (c.chains_are_known.ensures L _ config c.args.chain.now whole.order whole.chain).means.cycle in
-    let empty = c.is_empty.ensures.0 c.if-is_empty.true in let some = cycle.are in absurd (cc))
+    let empty = c.is_empty.ensures.0 c.if-is_empty.true in let some = cycle.are in cc in
+    none_picked _ _ _ _ _ none.answer none.name none.wildcard (λ L config whole. absurd (never L config whole)) (λ L config whole low. never L config whole)
 
 pub returns-then-is_outside : goal.returns-then-is_outside
 returns-then-is_outside g c =
@@ -22,7 +26,7 @@ returns-then-is_outside g c =
     let told = c.first_of-place.ensures.exact in
     let out = outside_only a listed x t (given_is _ _ (sym (c.is_outside.ensures.0 c.if-is_outside.true) ∙ told.exact)) in
     let none = c.judge_none-then-is_outside.ensures in
-    none_picked _ _ _ _ _ none.answer none.name none.wildcard (λ L config whole. rw out refl)
+    none_picked _ _ _ _ _ none.answer none.name none.wildcard (λ L config whole. rw out refl) (λ L config whole low. false≢true (sym out ∙ low))
 
 -- ---- of a name in the zone
 
