@@ -232,7 +232,17 @@ module _ (L : List ZoneRecord) (a : Name) where
 
     module _ (here : IsHere L a x t) where
       existing_so : name_exists L a x ≡ true → So (owned_answer (is_zone_cut L a x) (owns_type L a assume x) (length x) t)
-      existing_so there = grind (arith, common_steps, (choose_by So), and_parts, same_itself, not-true, not-false)
+      existing_so there =
+          let cut : Bool = is_zone_cut L a x in
+          let owned : ℕ → Bool = owns_type L a assume x in
+          choose_by So (cut && not (t == ds)) (Referral (length x)) (cond (owned (asked_type t)) Has (cond cut NoDs (cond (owned cname) Alias NoData)))
+          (λ e.
+          let p = and_parts cut (not (t == ds)) e in
+          record { cut = x; count = refl; is_cut = p.0; free = here.free; below = inr (same_itself x, not-true (t == ds) p.1) })
+          (λ e. choose_by So (owned (asked_type t)) Has (cond cut NoDs (cond (owned cname) Alias NoData)) (λ f. (here, f, e))
+          (λ f. choose_by So cut NoDs (cond (owned cname) Alias NoData)
+          (λ g. (here, f, g, not-false (t == ds) (ap (λ b. b && not (t == ds)) (sym g) ∙ e)))
+          (λ g. choose_by So (owned cname) Alias NoData (λ h. (here, f, g, h)) (λ h. (here, f, g, h, there)))))
 
       missing_so : name_exists L a x ≡ false → So (missing_answer L a assume (length (encloser L a x)) w t)
       missing_so gone =

@@ -237,8 +237,13 @@ module _ (L : List ZoneRecord) (a : Name) (config : ChainConfig) (listed : List 
           decides : (v : Answer) → v ≡ missing false → v ≡ inside
           decides v says = says ∙ ap missing (sym out) ∙ missing_is
 
+          decided : needs_wildcard L a config x ≡ true
+          decided =
+              let undirected_en = sym (denied.0.types dname (omega arith)) ∙ undirected in
+              let in_full = ap is_opt_out (sym denied.1) ∙ out in rw (gone.uncut, gone.gone, undirected_en, in_full) refl
+
           alone_w : (v : Octets) → hash_name config.hash w ≡ Ok v → IsAlone L a config w v
-          alone_w v known = let f = asked.wildcard gone.gone in alone_by L a config w f.0 v f.1 known
+          alone_w v known = let f = asked.wildcard decided in alone_by L a config w f.0 v f.1 known
 
           low_w : is_at_or_below w a ≡ true
           low_w = wildcard_low owners a x en closest
@@ -425,20 +430,20 @@ module _ (knows : ChainsAreKnown) (R : HashedRecords) (x : Name) (limit : ℕ) (
 closed : (m s c d v : Bool) → (m && ((s || c) || v)) ≡ true → (m && (((s || c) || d) || v)) ≡ true
 closed m s c d v e = grind (arith, common_steps)
 
--- where the wildcard decides, x does not exist
-needs_none : (u g d o w : Bool) → (g ≡ false → w ≡ true) → ((((not u && not g) && not d) && not o) && not w) ≡ false
-needs_none u g d o w f = grind (arith, common_steps)
+-- where the wildcard decides, it is told
+needs_none : (n w : Bool) → (n ≡ true → w ≡ true) → (n && not w) ≡ false
+needs_none n w f = grind (arith, common_steps)
 
 module _ {L : List ZoneRecord} {a : Name} {config : ChainConfig} {links : List HashedLink} (facts : ChainFacts L a config links) where
   module _ (x : Name) (low : is_at_or_below x a ≡ true) (asked : AreAskedAlone L a config x) where
     pub encloser_told : tells_encloser L a config links x ≡ true
     encloser_told = grind (arith, common_steps, proves_all, closed)
 
-    w_told : hashed_exists L a config x ≡ false → tells_wildcard L a config links x ≡ true
-    w_told gone =
+    w_told : needs_wildcard L a config x ≡ true → tells_wildcard L a config links x ≡ true
+    w_told needs =
         let w = wildcard_below (hashed_encloser L a config x) in
         let low_w = wildcard_low (original_owners L a config) a x (hashed_encloser L a config x) (encloser_is facts x low) in
-        let g = asked.wildcard gone in
+        let g = asked.wildcard needs in
         elim (cases_Bool (hashed_exists L a config w)) [
           | inl e ↦ or_left (is_matched (chain_records a config links) w) _ (whole_matches facts w low_w g.0 g.1 e)
           | inr e ↦ or_right (is_matched (chain_records a config links) w) _ (whole_covers facts w low_w g.0 g.1 e)
@@ -446,9 +451,7 @@ module _ {L : List ZoneRecord} {a : Name} {config : ChainConfig} {links : List H
 
     -- what is needed is told
     needed_told : (needs_wildcard L a config x && not (tells_wildcard L a config links x)) ≡ false
-    needed_told =
-        needs_none (is_below_chain_cut L a config x) (hashed_exists L a config x) (nsec3_lists L a config (hashed_encloser L a config x) dname)
-        (is_opt_out config.flags) (tells_wildcard L a config links x) w_told
+    needed_told = needs_none (needs_wildcard L a config x) (tells_wildcard L a config links x) w_told
 
 pub whole_proves : ChainsAreKnown → (L : List ZoneRecord) (a : Name) (config : ChainConfig) (links : List HashedLink)
     (x : Name) (t : ℕ) → LeavesOutBelowDname L a config.occlude_below_dname → IsHashedChain L a config links → AreAskedAlone L a config x

@@ -174,12 +174,12 @@ hashed_proved_answer L a config listed x t =
     then NoCloserName (length (hashed_encloser L a config x))
     else hashed_zone_answer L a config x t))
 
--- no other name of the chain has the hash of x, of an ancestor at or below the apex or, if x does
--- not exist, of the wildcard below its closest encloser
+-- no other name of the chain has the hash of x, of an ancestor at or below the apex or, if it
+-- decides, of the wildcard below the closest encloser of x
 pub record AreAskedAlone (L : List ZoneRecord) (a : Name) (config : ChainConfig) (x : Name)
     : Type 0 where
   pub ancestors : AreAlone L a config x
-  pub wildcard : hashed_exists L a config x ≡ false → (v : Octets)
+  pub wildcard : needs_wildcard L a config x ≡ true → (v : Octets)
       × IsAlone L a config (wildcard_below (hashed_encloser L a config x)) v
 
 -- the answer is what the records prove about any zone whose chain they are from, except for TTLs,
