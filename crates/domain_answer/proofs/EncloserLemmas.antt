@@ -238,7 +238,7 @@ module _ (L : List ZoneRecord) (a : Name) where
           choose_by So (cut && not (t == ds)) (Referral (length x)) (cond (owned (asked_type t)) Has (cond cut NoDs (cond (owned cname) Alias NoData)))
           (λ e.
           let p = and_parts cut (not (t == ds)) e in
-          record { cut = x; count = refl; is_cut = p.0; free = here.free; below = inr (same_itself x, not-true (t == ds) p.1) })
+          record { cut = x; count = refl; is_cut = p.0; free = here.free; below = inr (same_itself x x refl, not-true (t == ds) p.1) })
           (λ e. choose_by So (owned (asked_type t)) Has (cond cut NoDs (cond (owned cname) Alias NoData)) (λ f. (here, f, e))
           (λ f. choose_by So cut NoDs (cond (owned cname) Alias NoData)
           (λ g. (here, f, g, not-false (t == ds) (ap (λ b. b && not (t == ds)) (sym g) ∙ e)))

@@ -239,7 +239,7 @@ module _ (L : List ZoneRecord) (a : Name) (config : ChainConfig) (listed : List 
 
           decided : needs_wildcard L a config x ≡ true
           decided =
-              let undirected_en = sym (denied.0.types dname (omega arith)) ∙ undirected in
+              let undirected_en = denied.0.types dname (omega arith) ∙ undirected in
               let in_full = ap is_opt_out (sym denied.1) ∙ out in rw (gone.uncut, gone.gone, undirected_en, in_full) refl
 
           alone_w : (v : Octets) → hash_name config.hash w ≡ Ok v → IsAlone L a config w v
