@@ -1,7 +1,8 @@
 -- How an iterated digest follows from the state of the digest before.
-use Rattle.std.proofs.Common.{◌≡◌, ℕ, ◌+◌, ◌^◌, ◌<◌, ◌≤◌, List, [], ◌∷◌, ◌++◌, length, take, drop, map, replicate, slice_index}
+use Rattle.std.proofs.Common.{◌≡◌, ℕ, ◌+◌, ◌-◌, ◌*◌, ◌%◌, ◌^◌, ◌<◌, ◌≤◌, List, [], ◌∷◌, ◌++◌, length, take, drop, map, replicate, slice_index}
 use Rattle.std.proofs.Common.{arith, refl, sym, ap, ◌∙◌, add-one, length-append}
-use Rattle.std.proofs.lemmas.List.{map-append, take-map, drop-map, drop-take, length-map}
+use Rattle.std.proofs.lemmas.List.{append_assoc, map-append, take-map, drop-map, drop-take, length-map}
+use Rattle.std.specs.Int.{w64, to_be_bytes}
 use Rattle.std.proofs.Math.Seq.{take-append-add, drop-append_seam}
 use Rattle.std.proofs.lemmas.Nat.{from_be_bytes-to_be_bytes_4}
 use Rattle.sha1.specs.Sha1.{compress, first_words, initial_hash, word_at, padded_message, digest_bytes, sha1}
@@ -78,3 +79,23 @@ next_digest salt name r h d k fits before made started =
     let twenty : length (digest_bytes d 5) ≡ 20 = refl in
     let short : length m ≤ 55 = omega (arith, length-append (digest_bytes d 5) salt) in
     digest_after m r h short made started ∙ ap (λ digest. sha1 (digest ++ salt)) before ∙ ap (iterated salt name) (sym (add-one k))
+
+-- ---- one message
+
+-- a block whose front is a digest
+pub block_of : (d salt block : List ℕ) → length d ≡ 20 → drop 20 block ≡ drop 20 (padded_message (replicate 20 0 ++ salt))
+    → d ++ drop 20 block ≡ padded_message (d ++ salt)
+block_of d salt block long tail =
+    let z : List ℕ = replicate 20 0 in
+    let behind : ℕ → List ℕ = λ n. 0x80 ∷ replicate ((119 - n % 64) % 64) 0 ++ to_be_bytes w64 (n * 8 % 2 ^ 64) in
+    let same : length (z ++ salt) ≡ length (d ++ salt) = omega (arith, length-append z salt, length-append d salt) in
+    ap (λ r. d ++ r) tail ∙ ap (λ n. d ++ (salt ++ behind n)) same ∙ sym (append_assoc d salt (behind (length (d ++ salt))))
+
+-- behind it the block stays
+pub tail_stays : (d tail : List ℕ) → length d ≡ 20 → drop 20 (d ++ tail) ≡ tail
+tail_stays d tail long = rw long at (drop-append_seam d tail)
+
+-- a digest of one more iteration
+pub one_more : (salt name d r : List ℕ) (k : ℕ) → d ≡ iterated salt name k → r ≡ sha1 (d ++ salt) → r ≡ iterated salt name (k + 1)
+unfolding iterated
+one_more salt name d r k before made = made ∙ ap (λ digest. sha1 (digest ++ salt)) before ∙ ap (iterated salt name) (sym (add-one k))

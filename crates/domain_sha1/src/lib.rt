@@ -23,7 +23,7 @@ mod scalar;
 use domain_base::Nsec3HashAlgorithm;
 use domain_hasher::{HasherError, Nsec3Hasher};
 use message::{ONE_BLOCK, digest, pad};
-use scalar::digest_one;
+use scalar::iterate_one;
 use sha1::Sha1;
 use std::alloc::{AllocError, Global};
 
@@ -42,9 +42,6 @@ pub struct Sha1Hasher;
 fn salted(octets: &[u8], salt: &[u8]) -> [u8; 20]
     ensures { result ≡ sha1 (octets.now ++ salt.now) }
 {
-    if salt.len() <= ONE_BLOCK && octets.len() <= ONE_BLOCK - salt.len() {
-        return digest_one(octets, salt);
-    }
     let mut hasher = Sha1::new();
     hasher.update(octets);
     hasher.update(salt);
@@ -57,6 +54,9 @@ fn salted(octets: &[u8], salt: &[u8]) -> [u8; 20]
 fn hash_name(name: &[u8], iterations: u16, salt: &[u8]) -> [u8; 20]
     ensures { result ≡ iterated salt.now name.now iterations }
 {
+    if salt.len() <= MAX_SALT && name.len() <= ONE_BLOCK - salt.len() {
+        return iterate_one(name, iterations, salt);
+    }
     let mut digest = salted(name, salt);
     for _round in 0..iterations {
         digest = salted(&digest, salt);
