@@ -1,9 +1,10 @@
 -- What is picked of the NSEC3 chain of a zone is found where a search by hash ends, is what its answer rests on, and no more.
-use Rattle.std.proofs.Common.{◌≡◌, ℕ, suc, ◌+◌, ◌-◌, ◌<◌, ◌≤◌, Bool, true, false, ◌||◌, List, [], ◌∷◌, map, length, get_or, slice_get, Some, refl, sym, ap, ◌∙◌}
-use Rattle.std.proofs.{Common.{arith, inl, inr, ◌⊎◌, ◌≢◌, cond, not, ◌&&◌, Ok, subst}, lemmas.Bool.{and_parts, cases_Bool, cases_eq, false≢true, or_left}}
+use Rattle.std.proofs.Common.{◌≡◌, ℕ, suc, ◌+◌, ◌-◌, ◌<◌, ◌≤◌, Bool, true, false, ◌||◌, List, [], ◌∷◌, map, length, get_or, slice_get, refl, sym, ap, ◌∙◌}
+use Rattle.std.proofs.{Common.{None, Some, arith, inl, inr, ◌⊎◌, ◌≢◌, cond, not, ◌&&◌, Ok, subst}, lemmas.Bool.{and_parts, cases_Bool, cases_eq, false≢true, or_left}}
 use Rattle.std.proofs.lemmas.{Bool.{or_right, true_from_ne_false}, List.{get_or_past, length-map, Elements.recursion_from_All, Sorted.ranks_by}}
 use Rattle.std.{proofs.lemmas.{Option.{same_Some, get_or_from_slice_get, slice_get_within}, Grind.common_steps}, specs.Option.option_map_or}
-use Rattle.std.specs.{Cmp.{IsStrictWeakOrder, Lexicographic.{nat_list_cmp_total, slice_cmp}}, List.Sorted.IsStrictlySortedBy, Ordering.{is_eq, nat_cmp}}
+use Rattle.std.specs.{Cmp.{IsStrictWeakOrder, Lexicographic.{nat_list_cmp_total, slice_cmp}}, List.{list_any, Sorted.IsStrictlySortedBy}}
+use Rattle.std.specs.Ordering.{is_eq, nat_cmp}
 use Rattle.domain_codecs.specs.Base32.{base32_lower}
 use Rattle.domain_octets.specs.Octets.{AreOctets, Octets}
 use Rattle.domain_names.specs.Name.{is_at_or_below, same_name, last_labels, Name}
@@ -15,7 +16,8 @@ use Rattle.domain_nsec3.specs.Chain.{HashedLink, IsOfChain, cycle, ends, ends_of
 use Rattle.domain_nsec3.{specs.Meaning.{IsRecordOf, octets_before, IsAlone}, proofs.ChainLemmas.{cycle_length, hash_same}}
 use Rattle.domain_checker.proofs.HashedVerdictLemmas.{encloser_is, hash_at, hashes_octets, match_is_of_name, record_at, tied_is, unheard}
 use Rattle.domain_checker.{proofs.MeantLemmas.{hashed_contained_alike, same_count}, specs.{HashedReading.IsUnmatched, HashedVerdict.ChainFacts}}
-use Rattle.domain_checker.specs.HashedVerdict.{ChainsAreKnown, HashedRecords, chain_records, is_covered, is_hash_match, is_matched, next_closer, owner_hash}
+use Rattle.domain_checker.specs.HashedVerdict.{ChainsAreKnown, HashedRecords, chain_records, is_covered, is_hash_match, is_matched, is_ok_with, next_closer}
+use Rattle.domain_checker.specs.HashedVerdict.{owner_hash}
 use Rattle.domain_answer.proofs.{HashedAnswerLemmas.{read_proved, IsOfZone, encloser_told as whole_tells, whole_proves, zone_says}, EncloserLemmas.closest_last}
 use Rattle.domain_answer.{proofs.EncloserLemmas.{exists_low, strictly_other}, specs.HashedReading.{AreAskedAlone, hashed_proved_answer, needs_wildcard}}
 use Rattle.domain_answer.specs.{HashedReading.{tells_encloser, tells_wildcard, IsHashedRead, hashed_encloser, hashed_zone_answer}, ZoneAnswer.is_at_parent}
@@ -278,7 +280,11 @@ module _ (L : List ZoneRecord) (config : ChainConfig) (chain : ChainRecords) (x 
       parts_are =
           let count : length en ≡ length read.at.name = same_count en name is_first in
           record {
-            encloser = λ place e. grind (arith, common_steps, (hash_same config.hash en name is_first), (told_alone name place true));
+            encloser = λ place e.
+                let sole : IsSoleOf R name place true =
+                subst (λ q. IsSoleOf R name q true) (same_Some read.f.place place (sym read.encloser ∙ e)) read.at.sole in
+                let tests = is_ok_with (λ v. list_any (is_hash_match a config.parameters v) (at_place links (Some place))) in
+                ap tests (hash_same config.hash en name is_first) ∙ (told_alone name place true sole).0 refl;
             next_closer = λ place e. grind (arith, common_steps, (told_alone (next_closer x name) place false (read.covered place e)));
             wildcard = λ place e.
                 let told = read.told place e in

@@ -1,8 +1,8 @@
 //! Picks records of an NSEC3 chain.
-ghost use Rattle.std.specs.Prelude.{◌≡◌, ◌<◌, ℕ, None, Some, Err, length, slice_get, IfOk, IfErr};
-ghost use Rattle.domain_names.specs.Name.{last_labels};
+ghost use Rattle.std.specs.Prelude.{◌≡◌, ◌<◌, ℕ, None, Some, Err, length, slice_get, IfOk, IfErr, true, false};
+ghost use Rattle.domain_names.specs.Name.{is_at_or_below, last_labels};
 ghost use Rattle.domain_nsec3.specs.{Chain.{HashedLink, hash_name, IsNoHash}, View.hash_by};
-ghost use Rattle.domain_answer.specs.{HashedReading.flag_of, ZoneAnswer.wildcard_below};
+ghost use Rattle.domain_answer.specs.{HashedReading.flag_of, ZoneAnswer.{is_at_parent, wildcard_below}};
 ghost use Rattle.domain_denier.specs.HashedPicked.{without_records, ArePlaces, IsHashedDenied, IsRefusedAbove};
 ghost use Rattle.domain_denier.specs.HashedPicked.{wildcard_told_by, IsFirstAnswer, IsWildcardAnswer};
 ghost use Rattle.domain_denier.specs.Picked.{link_at};
