@@ -1,6 +1,7 @@
 -- What is picked of the NSEC3 chain of a zone is found where a search by hash ends, is what its answer rests on, and no more.
 use Rattle.std.proofs.Common.{◌≡◌, ℕ, suc, ◌+◌, ◌-◌, ◌<◌, ◌≤◌, Bool, true, false, ◌||◌, List, [], ◌∷◌, map, length, get_or, slice_get, refl, sym, ap, ◌∙◌}
-use Rattle.std.proofs.{Common.{None, Some, arith, inl, inr, ◌⊎◌, ◌≢◌, cond, not, ◌&&◌, Ok, subst}, lemmas.Bool.{and_parts, cases_Bool, cases_eq, false≢true, or_left}}
+use Rattle.std.proofs.Common.{None, Some, arith, inl, inr, ◌⊎◌, ◌≢◌, cond, not, ◌&&◌, Ok, subst}
+use Rattle.std.proofs.lemmas.Bool.{and_parts, cases_Bool, cases_eq, false≢true, or_left}
 use Rattle.std.proofs.lemmas.{Bool.{or_right, true_from_ne_false}, List.{get_or_past, length-map, Elements.recursion_from_All, Sorted.ranks_by}}
 use Rattle.std.{proofs.lemmas.{Option.{same_Some, get_or_from_slice_get, slice_get_within}, Grind.common_steps}, specs.Option.option_map_or}
 use Rattle.std.specs.{Cmp.{IsStrictWeakOrder, Lexicographic.{nat_list_cmp_total, slice_cmp}}, List.{list_any, Sorted.IsStrictlySortedBy}}
