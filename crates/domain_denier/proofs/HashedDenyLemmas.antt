@@ -286,7 +286,9 @@ module _ (L : List ZoneRecord) (config : ChainConfig) (chain : ChainRecords) (x 
                 subst (λ q. IsSoleOf R name q true) (same_Some read.f.place place (sym read.encloser ∙ e)) read.at.sole in
                 let tests = is_ok_with (λ v. list_any (is_hash_match a config.parameters v) (at_place links (Some place))) in
                 ap tests (hash_same config.hash en name is_first) ∙ (told_alone name place true sole).0 refl;
-            next_closer = λ place e. grind (arith, common_steps, (told_alone (next_closer x name) place false (read.covered place e)));
+            next_closer = λ place e.
+                ap (λ n. is_covered (chain_records a config (at_place links (Some place))) (last_labels (n + 1) x)) count
+                ∙ (told_alone (next_closer x name) place false (read.covered place e)).1 refl;
             wildcard = λ place e.
                 let told = read.told place e in
                 let named : en ≡ last_labels (length read.at.name) x = sym (closest_last owners a x) ∙ ap (λ n. last_labels n x) count in
@@ -359,6 +361,12 @@ denied_at_parent hash chain x s t own d low at picked answer encloser closer wil
           wildcard = λ place e apart. absurd (let none = wildcard in cc);
         };
       };
-  exact = λ needs. absurd (grind (arith, common_steps));
-  there = let inside = picked.there in grind (arith, common_steps);
+  exact = λ needs. absurd (false≢true (sym needs ∙ or_right (not (is_at_or_below x chain.param.owner)) (is_at_parent chain.param.owner x t) at));
+  there = λ place is. elim is [
+    | inl tells ↦ elim tells [
+      | inl e ↦ picked.there place (inl (inl (sym encloser ∙ e)))
+      | inr e ↦ absurd (let none = closer in cc)
+    ]
+    | inr e ↦ absurd (let none = wildcard in cc)
+  ];
 }

@@ -23,7 +23,7 @@ pub returns-then-is_empty-clause-denied : goal.returns-then-is_empty-clause-deni
 returns-then-is_empty-clause-denied g c =
     let here = (goal.at.returns-then-is_empty-clause-denied g c).After-to_int-number in
     let knows = c.hashed_chains_are_known.ensures in
-    rw c.without_records-then-is_empty.ensures (denied_none knows _ _ _ _ (small g here) (low g here) (parent g here)
+    rw c.without_records.ensures (denied_none knows _ _ _ _ (small g here) (low g here) (parent g here)
     (λ zone. absurd (some_links zone.0 _ zone.1 _ (knows zone.0 _ zone.1 _ zone.2.is) (c.is_empty.ensures.0 c.if-is_empty.true))))
 
 pub returns-in_default-clause-denied : goal.returns-in_default-clause-denied
