@@ -301,10 +301,10 @@ uint32_t denial_judge_nsec3(const uint8_t *apex, size_t apex_length,
  * the first NSEC3 record. Parameters and results are those of denial_judge_nsec3, except for these:
  *
  *   records      records of type NSEC3PARAM are skipped, as all other types are. An NSEC3 record is skipped,
- *                and its parameters do not count, if its owner is not at or below the apex, its algorithm is
- *                not SHA-1, or it has a flag other than opt-out (RFC 5155, sections 8.1 and 8.2). The
- *                parameters are those of the first record that is left. Records with other parameters are
- *                skipped too. If no record is left, nothing is proved.
+ *                and its parameters do not count, if its owner is not one label in Base 32 hex right before
+ *                the apex, its algorithm is not SHA-1, or it has a flag other than opt-out (RFC 5155,
+ *                sections 8.1 and 8.2). The parameters are those of the first record that is left. Records
+ *                with other parameters are skipped too. If no record is left, nothing is proved.
  *
  * DENIAL_NO_PARAM and DENIAL_HASHER_REFUSED are never returned. Allocates memory as denial_judge_nsec does.
  */
