@@ -68,7 +68,7 @@ enum denial_judgement {
      * section 3.2). With the labels of that owner. */
     DENIAL_JUDGED_REDIRECTED = 36,
 
-    /* The name owns records of the type: nothing is denied. */
+    /* The name owns records of the type, or of any type if the type is ANY (255): nothing is denied. */
     DENIAL_JUDGED_EXISTS = 37,
 
     /* The type is DS, and the name is a zone cut that owns none: an unsigned delegation (RFC 4035,
@@ -82,9 +82,9 @@ enum denial_judgement {
      * of other types, or is an empty non-terminal. */
     DENIAL_JUDGED_NO_DATA = 40,
 
-    /* The name does not exist, and the wildcard below its closest encloser owns records of the type, or
-     * is a zone cut and the type is not DS (RFC 4592, section 3.3). With the labels of the closest
-     * encloser. */
+    /* The name does not exist, and the wildcard below its closest encloser owns records of the type (of
+     * any type for ANY), or is a zone cut and the type is not DS (RFC 4592, section 3.3). With the labels
+     * of the closest encloser. */
     DENIAL_JUDGED_WILDCARD = 41,
 
     /* The name does not exist, and the wildcard below its closest encloser owns a CNAME record. With the
@@ -99,9 +99,9 @@ enum denial_judgement {
      * 2.1). With the labels of the closest encloser. */
     DENIAL_JUDGED_NAME_ERROR = 44,
 
-    /* The name, or a name above it, may be an unsigned delegation that the NSEC3 chain leaves out by
-     * opt-out (RFC 5155, section 6). This is neither a name error nor a secure answer. With the labels of
-     * the closest encloser. NSEC3 only. */
+    /* The name, a name above it, or the wildcard below its closest encloser may be an unsigned delegation
+     * that the NSEC3 chain leaves out by opt-out (RFC 5155, section 6). This is neither a name error nor a
+     * secure answer. With the labels of the closest encloser. NSEC3 only. */
     DENIAL_JUDGED_MAY_BE_UNSIGNED = 45,
 
     /* The name does not exist, and the records say nothing about the wildcard below its closest encloser.
