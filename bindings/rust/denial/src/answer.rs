@@ -23,7 +23,7 @@ pub enum Judgement {
         /// The labels of that owner.
         labels: usize,
     },
-    /// The name owns records of the type: nothing is denied.
+    /// The name owns records of the type, or of any type if the type is ANY: nothing is denied.
     Exists,
     /// The type is DS, and the name is a zone cut that owns none: an unsigned delegation.
     NoDs,
@@ -52,7 +52,8 @@ pub enum Judgement {
         /// The labels of the closest encloser.
         labels: usize,
     },
-    /// The name, or one above it, may be an unsigned delegation that the chain leaves out.
+    /// The name, one above it, or the wildcard may be an unsigned delegation that the chain leaves
+    /// out.
     MayBeUnsigned {
         /// The labels of the closest encloser.
         labels: usize,
