@@ -67,8 +67,8 @@ next_cover R None = None
 next_cover R (Some v) = first_cover R v
 
 -- the first of x and its ancestors at or below the apex that a record matches has e.count labels,
--- and the hasher has a hash for each name before it; the first match of that name and the first
--- cover of the next closer name count
+-- and the hasher has a hash for each name before it. The first match of that name and the first
+-- cover of the next closer name count.
 pub record IsEncloser (R : HashedRecords) (x : Name) (e : Encloser) : Type 0 where
   pub name : Name
   pub counts : e.count ≡ length name

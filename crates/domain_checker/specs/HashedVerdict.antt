@@ -154,8 +154,8 @@ hashed_proved_verdict L a config listed x t =
     then hashed_zone_verdict L a config x t else NotProven
 
 -- the verdict is what these records, in any order, with repeats, prove about any zone whose chain
--- they are from; TTLs, classes and the case of letters may differ, and no other name of the chain
--- has the hash of x or of an ancestor at or below the apex
+-- they are from. TTLs, classes and the case of letters may differ. No other name of the chain has
+-- the hash of x or of an ancestor at or below the apex.
 abbrev pub IsHashedProved : HashedRecords → Name → ℕ → Verdict → Type 0
 IsHashedProved R x t verdict =
     (L : List ZoneRecord) (config : ChainConfig) (links : List HashedLink)

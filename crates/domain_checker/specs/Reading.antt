@@ -16,10 +16,10 @@ is_at_cut a k = not (same_name k.owner a) && contains_type k.bits ns
 abbrev pub match_verdict : Name → Link → ℕ → Verdict
 match_verdict a k t = types_verdict (is_at_cut a k) (contains_type k.bits) t
 
--- what a record says of a name that it covers: below an owner that is a zone cut, the child zone
--- answers; if the next name is below x, then x is an empty non-terminal; otherwise x does not
+-- what a record says of a name that it covers. Below an owner that is a zone cut, the child zone
+-- answers. If the next name is below x, then x is an empty non-terminal. Otherwise x does not
 -- exist, and its closest encloser is the longer of the names that x shares with the owner and with
--- the next name
+-- the next name.
 abbrev pub cover_verdict : Name → Link → Name → Verdict
 cover_verdict a k x =
     if is_at_or_below x k.owner && is_at_cut a k then BelowDelegation else

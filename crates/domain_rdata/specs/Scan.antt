@@ -104,10 +104,9 @@ has_name (one spelled_name) = true
 has_name (a ▸ b) = has_name a || has_name b
 has_name _ = false
 
--- why the octets of a generic form do not become data over octets with this limit: they are not
--- such data; or a part has no room; or there is no memory, for a name, or for a part if octets have
--- no limit; octets of a type without a text form of its own have no fault, since any octets are its
--- data
+-- why the octets of a generic form do not become data over octets with this limit. They are not
+-- such data, a part has no room, or there is no memory: for a name, or for a part if octets have no
+-- limit. Octets of a type without a text form of its own have no fault: any octets are its data.
 abbrev pub OctetsFault : Option ℕ → Option Kind → Octets → ScanFault → Type 0
 OctetsFault limit None wire fault = ⊥
 OctetsFault limit (Some kind) wire entry_ends = ⊥
