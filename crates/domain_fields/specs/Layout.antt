@@ -14,14 +14,14 @@ use Rattle.std.specs.Hash as fed
 
 -- ---- the kinds of fields of data on the wire
 
--- octet, short, long: a number of 8, 16 or 32 bits.
--- name: a name, which the canonical form lowers (RFC 4034, section 6.2; RFC 6840, section 5.1).
--- spelled_name: a name that the canonical form leaves as it is spelled (by the same sections).
--- counted: a length octet and as many octets.
--- exactly: this number of octets.
--- at_most: no octets, with at most this number of octets after them.
--- rest: all octets that are left.
--- types: all octets that are left, which are a type bitmap (RFC 4034, section 4.1.2).
+-- octet, short, long: a number of 8, 16 or 32 bits;
+-- name: a name, which the canonical form lowers (RFC 4034, section 6.2; RFC 6840, section 5.1);
+-- spelled_name: a name that the canonical form leaves as it is spelled (by the same sections);
+-- counted: a length octet and as many octets;
+-- exactly: this number of octets;
+-- at_most: no octets, with at most this number of octets after them;
+-- rest: all octets that are left;
+-- types: all octets that are left, which are a type bitmap (RFC 4034, section 4.1.2)
 pub data Field : Type 0 where
   octet : Field
   short : Field
