@@ -286,6 +286,12 @@ pub found_reads : (a : Name) (listed : List Link) (x : Name) (t : ℕ) → is_at
 found_reads a listed x t low apart None covered found = grind (arith, common_steps)
 found_reads a listed x t low apart (Some k) covered found = grind (arith, common_steps)
 
+-- and of a wildcard
+pub found_wild : (a : Name) (listed : List Link) (n : ℕ) (w : Name) (t : ℕ) (matched covered : Option Link) → IsFound a listed w matched covered
+    → wildcard_both a n w t matched covered ≡ wildcard_answer a listed n w t
+found_wild a listed n w t None covered found = grind (arith, common_steps)
+found_wild a listed n w t (Some k) covered found = grind (arith, common_steps)
+
 -- a cover that was found covers the name
 pub found_covers : (a : Name) (listed : List Link) (x : Name) (k : Link) → IsFound a listed x None (Some k) → covers before k.owner k.next x ≡ true
 found_covers a listed x k found = grind (arith, common_steps, (find_some (is_cover a x) listed k))

@@ -54,3 +54,43 @@ pub tells_no_text : (hashes : HasherAnswer) (kind : ChainKind) (given : List Raw
     → HasNoText hashes kind given q e → TellsNone (HasNoText hashes kind given q) e
 tells_no_text hashes Nsec given q e why = grind (arith, common_steps)
 tells_no_text hashes (Nsec3 asked) given q e why = grind (arith, common_steps)
+
+-- ---- What was found is what the records say.
+
+pub found_told : (a : Name) (listed : List Link) (role : Role) (x : Name) (m c : Option Link) → IsFound a listed x m c
+    → finding plain role m c ≡ nsec_told a listed role x
+found_told a listed role x None c found = grind (arith, common_steps)
+found_told a listed role x (Some k) c found = grind (arith, common_steps)
+
+-- for the wildcard below the last n labels of x, of which there are more
+wildcard_found : (a : Name) (listed : List Link) (x : Name) (n : ℕ) (f : Option (Option Link × Option Link)) → n < length x
+    → IsWildcardWitness a listed x (Absent n) f → told_wildcard plain x (Some n) f ≡ told_where (nsec_told a listed) (wildcard_asked x (Some n))
+wildcard_found a listed x n None less is = absurd is
+wildcard_found a listed x n (Some f) less is =
+    let same = found_told a listed (Wildcard (last_labels n x)) (wildcard_below (last_labels n x)) f.0 f.1 is in
+    grind (arith, common_steps)
+
+-- for the wildcard that was looked up for an answer
+pub wildcard_told : (a : Name) (listed : List Link) (x : Name) (t : ℕ) (answer : Answer) (f : Option (Option Link × Option Link))
+    → IsJudged listed a x t answer → IsWildcardWitness a listed x (name_answer answer) f
+    → told_wildcard plain x (wildcard_count answer) f ≡ told_where (nsec_told a listed) (wildcard_asked x (wildcard_count answer))
+wildcard_told a listed x t (answers.Wildcard n) f judged is = wildcard_found a listed x n f judged.within is
+wildcard_told a listed x t (answers.WildcardAlias n) f judged is = wildcard_found a listed x n f judged.within is
+wildcard_told a listed x t (answers.WildcardNoData n) f judged is = wildcard_found a listed x n f judged.within is
+wildcard_told a listed x t (answers.NameError n) f judged is = wildcard_found a listed x n f judged.within is
+wildcard_told a listed x t (answers.NoCloserName n) f judged is = wildcard_found a listed x n f judged.within is
+wildcard_told a listed x t (answers.MayBeUnsigned n) f judged is = absurd judged.proof
+wildcard_told a listed x t answer f judged is = grind (arith, common_steps)
+
+-- an answer with which records are shown is about a name of the zone
+pub shown_low : (a : Name) (listed : List Link) (x : Name) (t : ℕ) (answer : Answer) → IsJudged listed a x t answer → shows_records answer ≡ true
+    → is_at_or_below x a ≡ true
+shown_low a listed x t answer judged shown = grind (arith, common_steps)
+
+-- ---- The same for NSEC3 records.
+
+module _ (R : HashedRecords) (x : Name) (t limit : ℕ) (answer : Answer) (judged : IsHashedJudged R x t limit (Ok answer))
+    (shown : shows_records answer ≡ true) where
+  -- names were looked up, unless the parent zone answers
+  pub looked_up : (answer ≡ answers.AtParent → ⊥) → (needs_no_records R.apex x t ≡ false) × (R.parameters.iterations ≤ limit)
+  looked_up other = grind (arith, common_steps)
