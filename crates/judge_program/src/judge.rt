@@ -64,13 +64,13 @@ fn judge_nsecs<'a, W: Write>(
 
 /// Returns whether the record has no unknown flags, if it is an NSEC3 or NSEC3PARAM record: with
 /// others it must be ignored (RFC 5155, sections 4.1.2 and 8.2).
-fn has_known_flags(record: &BorrowedRecord<'_>) -> bool
-    ensures { result ≡ has_known_flags record.now }
+fn has_known_flags(listed: &BorrowedRecord<'_>) -> bool
+    ensures { result ≡ has_known_flags listed.now }
 {
-    if record.rtype() != Rtype::NSEC3 && record.rtype() != Rtype::NSEC3PARAM {
+    if listed.rtype() != Rtype::NSEC3 && listed.rtype() != Rtype::NSEC3PARAM {
         return true;
     }
-    match record.data().octets() {
+    match listed.data().octets() {
         [_, flags, ..] => *flags < 2,
         _ => true,
     }
