@@ -23,7 +23,7 @@ use Rattle.domain_answer.proofs.EncloserLemmas.{asked_bound}
 use Rattle.domain_answer.{proofs.EncloserLemmas.{parent_below, strictly_enclosed, wildcard_low, highest_of, encloser_less, all_told}, specs.Reading.IsFound}
 use Rattle.domain_answer.specs.Reading.{IsAnswered, LeavesOutBelowDname, is_missing, knows_wildcard, proved_answer, CountsWithin, RestsOn, cover_answer}
 use Rattle.domain_answer.specs.Reading.{listed_answer, listed_both, match_answer, reading, tells_occluded, tells_occluder, wildcard_answer, wildcard_both}
-use Rattle.domain_answer.specs.{Reading.{IsNameAnswer, absent_answer, name_answer}, ZoneAnswer.{asked_type, is_of_child, owned_answer, asterisk, encloser}}
+use Rattle.domain_answer.specs.{Reading.{IsNameAnswer, absent_answer, name_answer}, ZoneAnswer.{asked_type, is_of_child, nxname, owned_answer, asterisk, encloser}}
 use Rattle.domain_answer.specs.ZoneAnswer.{highest_occluder, inside_answer, is_at_parent, missing_answer, name_exists, owns_type, wildcard_below, zone_answer}
 use Rattle.domain_answer.specs.declared.answer.Answer.{Answer, TheVariants.{OutsideZone, AtParent, Referral, Redirected, NoData, WildcardNoData, NameError}}
 use Rattle.domain_answer.specs.declared.answer.{Answer.TheVariants.{NoCloserName, NotProven}, NameAnswer.TheVariants.{Absent, Given}}
@@ -189,7 +189,7 @@ module _ {L : List ZoneRecord} {a : Name} {assume : Bool} {links : List Link} (f
         rw (there exists, none_above L a x (matched_high facts k i x m), exists, child_at k i)
         (owned_alike (is_at_cut a k) (is_zone_cut L a x) (contains_type k.bits) (owns_type L a assume x) (length k.owner) (length x) t
         (matched_cut k i x m) (λ c. matched_type k i x m (asked_type t) (asked_bound t bound)) (matched_type k i x m cname (omega arith))
-        (same_count k.owner x (same k i x m)))
+        (matched_type k i x m nxname (omega arith)) (same_count k.owner x (same k i x m)))
 
     module _ (k : Link) (stands : Stands links k) (c : covers before k.owner k.next x ≡ true) where
       told : tells_occluded a k x ≡ is_occluded true L a x

@@ -20,6 +20,7 @@ abbrev pub needs_of : Answer → Needs
 needs_of (answers.Referral n) = needs.Cut
 needs_of answers.AtParent = needs.Own
 needs_of answers.NoDs = needs.Own
+needs_of answers.NxName = needs.Own
 needs_of answers.NoData = needs.Own
 needs_of (answers.Wildcard n) = needs.Closer
 needs_of (answers.WildcardAlias n) = needs.Closer

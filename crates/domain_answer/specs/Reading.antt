@@ -8,9 +8,9 @@ use Rattle.domain_nsec.specs.{Chain.{Link, IsChain, as_link}, declared.config.Ge
 use Rattle.domain_checker.specs.{Reading.{is_cover, is_match, is_at_cut}, Verdict.{IsAlike, IsPairedIn, has_match_or_cover, HasProof}}
 use Rattle.domain_answer.specs.declared.{found.{NsecCover.NsecCover, NsecFound.{NsecFound, TheVariants.{Match, NoMatch}}}, answer.Answer.Answer}
 use Rattle.domain_answer.specs.declared.answer.Answer.TheVariants.{OutsideZone, AtParent, Referral, Redirected, NoData, Wildcard, WildcardAlias, WildcardNoData}
-use Rattle.domain_answer.specs.declared.answer.Answer.TheVariants.{NameError, NoCloserName, NotProven, MayBeUnsigned, TooManyIterations, Has, NoDs, Alias}
+use Rattle.domain_answer.specs.declared.answer.Answer.TheVariants.{NameError, NoCloserName, NotProven, MayBeUnsigned, TooManyIterations, Has, NoDs, Alias, NxName}
 use Rattle.domain_answer.specs.{declared.answer.NameAnswer.{NameAnswer, TheVariants.{Given, Absent}}, ZoneAnswer.{types_answer, wildcard_types_answer}}
-use Rattle.domain_answer.specs.ZoneAnswer.{asked_type, is_at_parent, wildcard_below, encloser, name_exists, zone_answer, owns_type}
+use Rattle.domain_answer.specs.ZoneAnswer.{asked_type, is_at_parent, nxname, wildcard_below, encloser, name_exists, zone_answer, owns_type}
 use Rattle.domain_bitmap.specs.Blocks.{contains_type}
 use Rattle.domain_base.specs.Types.{dname, cname, ds}
 
@@ -270,9 +270,13 @@ IsSo L a assume x t NoDs =
 IsSo L a assume x t Alias =
     IsHere L a x t × (owns_type L a assume x (asked_type t) ≡ false) × (is_zone_cut L a x ≡ false)
     × (owns_type L a assume x cname ≡ true)
+IsSo L a assume x t NxName =
+    IsHere L a x t × (owns_type L a assume x (asked_type t) ≡ false) × (is_zone_cut L a x ≡ false)
+    × (owns_type L a assume x cname ≡ false) × (owns_type L a assume x nxname ≡ true)
 IsSo L a assume x t NoData =
     IsHere L a x t × (owns_type L a assume x (asked_type t) ≡ false) × (is_zone_cut L a x ≡ false)
-    × (owns_type L a assume x cname ≡ false) × (name_exists L a x ≡ true)
+    × (owns_type L a assume x cname ≡ false) × (owns_type L a assume x nxname ≡ false)
+    × (name_exists L a x ≡ true)
 IsSo L a assume x t (Wildcard n) =
     IsAbsent L a x t n × (name_exists L a (wildcard_of L a x) ≡ true)
     × (is_answered_below L a assume x t ≡ true)

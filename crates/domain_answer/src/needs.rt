@@ -47,6 +47,7 @@ pub fn needs_of(answer: Answer) -> Needs
         Answer::Referral(_) => Needs::Cut,
         Answer::Redirected(_) | Answer::Has | Answer::Alias => Needs::Nothing,
         Answer::AtParent | Answer::NoDs | Answer::NoData => Needs::Own,
+        Answer::NxName => Needs::Own,
         Answer::Wildcard(_) | Answer::WildcardAlias(_) => Needs::Closer,
         Answer::WildcardNoData(_) | Answer::NameError(_) => Needs::Both,
         Answer::MayBeUnsigned(_) | Answer::NoCloserName(_) => Needs::Both,
