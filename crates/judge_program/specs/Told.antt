@@ -145,6 +145,13 @@ nsec_tellings a listed x answer =
     })
     else None
 
+-- what was found for the wildcard of an answer or, if it was not looked up, what the records say
+abbrev pub wildcard_or_found : HashedRecords → Name → Answer
+    → Option (Option HashedLink × Option HashedLink) → Option Telling
+wildcard_or_found R x answer None =
+    told_where (nsec3_told R) (wildcard_asked x (wildcard_count answer))
+wildcard_or_found R x answer (Some f) = told_wildcard hashed x (wildcard_count answer) (Some f)
+
 -- the role of the matched name: x itself, or its closest encloser, which has n labels
 abbrev pub encloser_role : Name → ℕ → Role
 encloser_role x n = if n == length x then Asked else ClosestEncloser (last_labels n x)

@@ -7,7 +7,7 @@ ghost use Rattle.judge_program.specs.Run.{HasNoText, IsNsecText, IsNsec3Text, Is
 
 use crate::command::{ChainKind, Command, Nsec3Options};
 use crate::nsec_told::nsec_parts;
-use crate::nsec3_told::{Inquiry, Told};
+use crate::nsec3_told::Inquiry;
 use crate::shown::{Shown, write_first};
 use crate::told::{Parts, write_below};
 use denial_program::{DenialFault, Question, ZoneName, chain_of, fault_of, records_among};
@@ -80,7 +80,7 @@ fn has_known_flags(listed: &BorrowedRecord<'_>) -> bool
 fn known_of<'a>(mut records: Vec<BorrowedRecord<'a>>) -> Vec<BorrowedRecord<'a>>
     ensures { result.items ≡ filter has_known_flags records.entry.items }
 {
-    records.retain(has_known_flags);
+    records.retain(|listed| has_known_flags(listed));
     records
 }
 
@@ -112,8 +112,8 @@ fn judge_nsec3s<'a, W: Write, H: Nsec3Hasher>(
         index: &index,
         hasher,
     };
-    let Told { answer, parts } = inquiry.judge(asked, shown)?;
-    match write_answer(&question.name, answer, shown, &parts, output) {
+    let told = inquiry.judge(asked, shown)?;
+    match write_answer(&question.name, told.answer, shown, &told.parts, output) {
         Ok(()) => Ok(()),
         Err(e) => Err(fault_of(&e, DenialFault::Write)),
     }

@@ -11,7 +11,8 @@ ghost use Rattle.judge_program.specs.Judged.{records_of, IsRefusalAsked, IsRefus
 ghost use Rattle.domain_answer.specs.Needs.{wildcard_count};
 ghost use Rattle.judge_program.specs.Told.{shows_records, closer_told, encloser_role};
 ghost use Rattle.judge_program.specs.Told.{encloser_told, finding, nsec3_told, telling_of, tellings_of};
-ghost use Rattle.judge_program.specs.Told.{told_where, told_wildcard, wildcard_asked, AreNsec3Told};
+ghost use Rattle.judge_program.specs.Told.{told_where, told_wildcard, wildcard_asked};
+ghost use Rattle.judge_program.specs.Told.{wildcard_or_found, AreNsec3Told};
 ghost use Rattle.judge_program.specs.Told.{AreWhole, AnyLink.hashed};
 
 use crate::command::Nsec3Options;
@@ -40,6 +41,7 @@ type Found<'r, 'a> = Nsec3Found<'r, &'a [u8], ParsedName<'a>>;
 type Judged<'r, 'a> = Nsec3Judgement<'r, &'a [u8], ParsedName<'a>>;
 
 /// An answer, with the records to print below it.
+#[derive(Drop)]
 pub struct Told<'r, 'a> {
     /// The answer.
     pub answer: Answer,
@@ -164,6 +166,9 @@ impl<'i, 'r, 'a, H: Nsec3Hasher> Inquiry<'i, 'r, 'a, H> {
         let Some(count) = wildcard_count(answer) else {
             return Ok(None);
         };
+        if count >= name.count_labels() {
+            return Ok(None);
+        }
         let mut buffer = [0; MAX_NAME];
         let Some(wildcard) = wildcard_of(&mut buffer, name, count) else {
             return Ok(None);
@@ -172,6 +177,23 @@ impl<'i, 'r, 'a, H: Nsec3Hasher> Inquiry<'i, 'r, 'a, H> {
             Ok(found) => Ok(part_of(Role::Wildcard(name.last_labels(count)), found)),
             Err(Nsec3HashError::OutOfMemory) => Err(DenialFault::OutOfMemory),
             Err(_) => Ok(None),
+        }
+    }
+
+    /// Returns what was found for the wildcard or, if it was not looked up, looks it up.
+    fn wildcard(
+        &self,
+        answer: Answer,
+        found: Option<Found<'r, 'a>>,
+    ) -> Result<Option<Part<'r, 'a>>, DenialFault>
+        ensures ok { IfOk result (λ part. option_map telling_of part
+            ≡ wildcard_or_found (records_of H.answer self.now) self.now.question.now.name answer
+            (option_map (hashed_finding_of (λ n. n)) found.entry)) }
+        ensures err { IfErr result (λ e. e ≡ Memory) }
+    {
+        match found {
+            Some(found) => Ok(wildcard_part(&self.question.name, answer, found)),
+            None => self.find_wildcard(answer),
         }
     }
 
@@ -238,10 +260,7 @@ impl<'i, 'r, 'a, H: Nsec3Hasher> Inquiry<'i, 'r, 'a, H> {
             return self.find_apex(limit);
         }
         let name = &self.question.name;
-        let wildcard = match wildcard {
-            Some(found) => wildcard_part(name, answer, found),
-            None => self.find_wildcard(answer)?,
-        };
+        let wildcard = self.wildcard(answer, wildcard)?;
         Ok(Some(Parts {
             matched: encloser_part(name, &encloser),
             closer: closer_part(name, answer, &encloser),
