@@ -14,10 +14,12 @@ use Rattle.domain_zone.specs.Zone.{is_occluded, is_unoccluded, is_zone_cut, occl
 use Rattle.domain_nsec.specs.Chain.{nsec_lists}
 use Rattle.domain_checker.proofs.{HashedVerdictLemmas.below_drop, MeantLemmas.{choose_by, cut_same, occluded_same, occludes_same, same_count, strictly_trans}}
 use Rattle.domain_checker.{proofs.MeantLemmas.top_occluder, specs.Verdict.closest_encloser}
-use Rattle.domain_answer.specs.{Reading.{IsAbsent, IsHere, IsRedirected, IsReferred, IsSo, wildcard_of}, ZoneAnswer.{expanded_answer, nxname, owned_answer, asterisk}}
+use Rattle.domain_answer.specs.{Reading.{IsAbsent, IsHere, IsRedirected, IsReferred, IsSo, wildcard_of}, ZoneAnswer.{expanded_answer, nxname}}
+use Rattle.domain_answer.specs.ZoneAnswer.{owned_answer, asterisk}
 use Rattle.domain_answer.specs.ZoneAnswer.{asked_type, highest_occluder, wildcard_below, encloser, inside_answer, is_at_parent, missing_answer, name_exists}
 use Rattle.domain_answer.specs.{ZoneAnswer.{occluded_answer, owns_type, unoccluded_answer, zone_answer}, declared.answer.Answer.Answer}
-use Rattle.domain_answer.specs.declared.answer.Answer.TheVariants.{NotProven, OutsideZone, AtParent, Referral, Redirected, Has, NoDs, Alias, NxName, NoData, Wildcard}
+use Rattle.domain_answer.specs.declared.answer.Answer.TheVariants.{NotProven, OutsideZone, AtParent, Referral, Redirected}
+use Rattle.domain_answer.specs.declared.answer.Answer.TheVariants.{Has, NoDs, Alias, NxName, NoData, Wildcard}
 use Rattle.domain_answer.specs.declared.answer.Answer.TheVariants.{WildcardAlias, WildcardNoData, NameError, MayBeUnsigned, NoCloserName, TooManyIterations}
 
 -- ---- the type that decides

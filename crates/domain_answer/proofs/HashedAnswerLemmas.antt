@@ -33,7 +33,8 @@ use Rattle.domain_answer.specs.HashedReading.{hashed_inside_answer, hashed_wildc
 use Rattle.domain_answer.specs.{HashedReading.{HasEncloserProof, HashedRestsOn, wildcard_told, hashed_missing_answer, is_of_one_chain}, ZoneAnswer.is_at_parent}
 use Rattle.domain_answer.specs.ZoneAnswer.{wildcard_below, asterisk, encloser, highest_occluder, inside_answer, missing_answer, name_exists, owns_type}
 use Rattle.domain_answer.specs.{ZoneAnswer.{asked_type, nxname, zone_answer, is_of_child, wildcard_types_answer, owned_answer}, declared.answer.Answer.Answer}
-use Rattle.domain_answer.specs.declared.answer.Answer.TheVariants.{Alias, Has, NoData, NoDs, NxName, Referral, Redirected, MayBeUnsigned, NoCloserName, NotProven, NameError, TooManyIterations}
+use Rattle.domain_answer.specs.declared.answer.Answer.TheVariants.{Alias, Has, NoData, NoDs, NxName}
+use Rattle.domain_answer.specs.declared.answer.Answer.TheVariants.{Referral, Redirected, MayBeUnsigned, NoCloserName, NotProven, NameError, TooManyIterations}
 use Rattle.domain_answer.specs.{declared.answer.Answer.TheVariants.{OutsideZone, AtParent}, Reading.{reading, LeavesOutBelowDname, CountsWithin}}
 use Rattle.domain_answer.specs.Judged.{IsExpansionJudged, IsHashedJudged, IsJudged}
 

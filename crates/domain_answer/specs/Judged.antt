@@ -10,7 +10,8 @@ use Rattle.domain_answer.specs.declared.judge.{Nsec3Expansion.Nsec3Expansion, Ns
 use Rattle.domain_answer.specs.HashedReading.{found_answer, hashed_finding_of, AreLookedUp, IsHashedWildcardWitness}
 use Rattle.domain_checker.specs.{HashedIndex.IsPast, HashedVerdict.HashedRecords}
 use Rattle.domain_answer.specs.HashedReading.{closer_name, is_expanded, ExpansionRestsOn, IsExpansionAnswered, IsExpansionRead, HashedRestsOn, IsHashedAnswered}
-use Rattle.domain_answer.specs.{HashedReading.{IsFirstOfRefusals, IsHashedRead}, Reading.{AreFound, IsWildcardWitness, name_answer, needs_no_records, CountsWithin, IsAnswered, RestsOn, reading}}
+use Rattle.domain_answer.specs.{HashedReading.{IsFirstOfRefusals, IsHashedRead}, Reading.{AreFound, IsWildcardWitness, name_answer}}
+use Rattle.domain_answer.specs.Reading.{needs_no_records, CountsWithin, IsAnswered, RestsOn, reading}
 use Rattle.domain_answer.specs.{ZoneAnswer.is_at_parent, declared.answer.Answer.{Answer, TheVariants.{OutsideZone, AtParent, TooManyIterations, NotProven}}}
 use Rattle.domain_answer.specs.declared.limits.Nsec3Limits.{Nsec3Limits}
 

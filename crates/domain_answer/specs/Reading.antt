@@ -8,7 +8,8 @@ use Rattle.domain_nsec.specs.{Chain.{Link, IsChain, as_link}, declared.config.Ge
 use Rattle.domain_checker.specs.{Reading.{is_cover, is_match, is_at_cut}, Verdict.{IsAlike, IsPairedIn, has_match_or_cover, HasProof}}
 use Rattle.domain_answer.specs.declared.{found.{NsecCover.NsecCover, NsecFound.{NsecFound, TheVariants.{Match, NoMatch}}}, answer.Answer.Answer}
 use Rattle.domain_answer.specs.declared.answer.Answer.TheVariants.{OutsideZone, AtParent, Referral, Redirected, NoData, Wildcard, WildcardAlias, WildcardNoData}
-use Rattle.domain_answer.specs.declared.answer.Answer.TheVariants.{NameError, NoCloserName, NotProven, MayBeUnsigned, TooManyIterations, Has, NoDs, Alias, NxName}
+use Rattle.domain_answer.specs.declared.answer.Answer.TheVariants.{NameError, NoCloserName, NotProven, MayBeUnsigned, TooManyIterations}
+use Rattle.domain_answer.specs.declared.answer.Answer.TheVariants.{Has, NoDs, Alias, NxName}
 use Rattle.domain_answer.specs.{declared.answer.NameAnswer.{NameAnswer, TheVariants.{Given, Absent}}, ZoneAnswer.{types_answer, wildcard_types_answer}}
 use Rattle.domain_answer.specs.ZoneAnswer.{asked_type, is_at_parent, nxname, wildcard_below, encloser, name_exists, zone_answer, owns_type}
 use Rattle.domain_bitmap.specs.Blocks.{contains_type}

@@ -22,8 +22,8 @@ pub(crate) fn is_expanded<A: ToName, M: ToName>(apex: &A, name: &M, labels: usiz
     name.ends_with(apex) && apex.count_labels() <= labels && labels < name.count_labels()
 }
 
-/// Returns what the record that was found for the next closer name says of a name that was expanded from the
-/// wildcard right below its last `labels` labels.
+/// Returns what the record that was found for the next closer name says of a name that was expanded
+/// from the wildcard right below its last `labels` labels.
 pub(crate) fn closer_told<O: Octets, N: ToName>(
     labels: usize,
     found: &Nsec3Found<'_, O, N>,

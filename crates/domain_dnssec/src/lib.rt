@@ -8,8 +8,8 @@
 //!   one by one, in less memory.
 //! - `check_nsec` and `check_nsec3` return what records of a chain prove about a name and a type.
 //! - `judge_nsec` and `judge_nsec3` return the whole answer: a name error, no data, a delegation,
-//!   an alias, or what a wildcard does. `judge_nsec_with_witnesses` and `judge_nsec3_with_witnesses`
-//!   also return the records that it rests on.
+//!   an alias, or what a wildcard does. `judge_nsec_with_witnesses` and
+//!   `judge_nsec3_with_witnesses` also return the records that it rests on.
 //! - `deny_nsec` and `deny_nsec3` pick the records of a chain with which a server answers.
 //! - `compose_nsecs` and `compose_nsec3s` write a chain in wire format, and `published_nsec3param`
 //!   returns the NSEC3PARAM record that a zone publishes.

@@ -8,7 +8,8 @@ use Rattle.domain_answer.specs.declared.answer.Answer.{Answer}
 use Rattle.domain_checker.specs.HashedVerdict.{links_with}
 use Rattle.denial_program.specs.{Run.IsOver, declared.{command.Question.Question, fault.DenialFault.{DenialFault, TheVariants.{Usage, Unprepared}}}}
 use Rattle.denial_program.specs.declared.fault.DenialFault.TheVariants.{OutOfMemory}
-use Rattle.judge_program.specs.{Command.{Asks, IsCommand, IsNoCommand}, Judged.{has_known_flags, IsNotNsec3Judged, IsNsec3Judged, IsNsecJudged}, Told.shows_records}
+use Rattle.judge_program.specs.{Command.{Asks, IsCommand, IsNoCommand}, Told.shows_records}
+use Rattle.judge_program.specs.Judged.{has_known_flags, IsNotNsec3Judged, IsNsec3Judged, IsNsecJudged}
 use Rattle.judge_program.specs.{Told.{below_text, nsec_tellings, AreNsec3Told, Tellings}, Text.first_line, declared.command.ChainKind.ChainKind}
 use Rattle.judge_program.specs.declared.{command.{ChainKind.TheVariants.{Nsec, Nsec3}, Nsec3Options.Nsec3Options}, shown.Shown.Shown}
 

@@ -1,6 +1,6 @@
 -- The records that an answer rests on, and those with which a server answers.
-use Rattle.std.specs.Prelude.{ℕ, Bool, true, false, Option, Some, None, ◌≡◌, ◌+◌, ◌==◌, not, ◌&&◌, ◌||◌, List, [], ◌++◌, codes, length, nat_lt, bytes_eq, ◌<◌, ◌≤◌}
-use Rattle.std.specs.{Prelude.{Result, Ok, Err, if◌then◌else◌}, Option.{is_some, option_map}, List.find}
+use Rattle.std.specs.Prelude.{ℕ, Bool, true, false, Option, Some, None, ◌≡◌, ◌+◌, ◌==◌, not, ◌&&◌, ◌||◌, List, [], ◌++◌, codes, length, nat_lt}
+use Rattle.std.specs.{Prelude.{bytes_eq, ◌<◌, ◌≤◌, Result, Ok, Err, if◌then◌else◌}, Option.{is_some, option_map}, List.find}
 use Rattle.domain_answer.specs.{declared.answer.Answer.Answer, HashedReading.closer_name, ZoneAnswer.wildcard_below}
 use Rattle.domain_answer.specs.{Needs.{needs_of, needs_wildcard_record, wildcard_count}, declared.needs.Needs.Needs}
 use Rattle.judge_program.specs.declared.{told.{Listed.{Listed, TheVariants.{Nsec, Nsec3}}, Part.Part, Parts.Parts}, role.Role.Role}

@@ -25,7 +25,8 @@ found : (g : Over) (c : After-found_answer-first g) → IsFoundEncloser
 found g c = (rw (sym c.encloser_in.ensures, c.in-Some.is) at c.in_ok-found.ensures.found).0
 
 says : (g : Over) (c : After-found_answer-first g)
-    → found_answer c.args.index.now.apex (option_map (encloser_of g.N.ToName.labels) c.in-Some.encloser) (length (g.M.ToName.labels c.args.name.now)) c.args.rtype
+    → found_answer c.args.index.now.apex (option_map (encloser_of g.N.ToName.labels) c.in-Some.encloser)
+    (length (g.M.ToName.labels c.args.name.now)) c.args.rtype
     ≡ c.found_answer-first.result
 says g c = sym (rw (c.apex-apex.ensures, c.count_labels.ensures.count) at c.found_answer-first.ensures)
 

@@ -56,5 +56,6 @@ returns-clause-witnesses g c =
     record {
       name = λ below. c.find_nsec-of_name.ensures.found;
       outside = λ e. absurd (false≢true (sym e ∙ low g after));
-      wildcard = rw (ap name_answer (sym whole) ∙ sym (named g after).exact ∙ c.in-Absent.is) (rw c.wildcard_below-wildcard.ensures at c.find_nsec-found.ensures.found);
+      wildcard = rw (ap name_answer (sym whole) ∙ sym (named g after).exact ∙ c.in-Absent.is)
+          (rw c.wildcard_below-wildcard.ensures at c.find_nsec-found.ensures.found);
     }

@@ -16,8 +16,10 @@ told g c = record {
     are = rw c.deref.ensures.value at c.in_ok-nsecs.ensures;
     is = rw c.deref-2.ensures.value at c.judge_nsec_with_witnesses-judged.ensures.judged;
   };
-  is = ap (λ t. first_line c.args.shown c.args.question.now.name c.judge_nsec_with_witnesses-judged.result.answer ++ below_text c.args.shown c.judge_nsec_with_witnesses-judged.result.answer t)
-      (c.nsec_parts-parts.ensures _ (rw c.deref-2.ensures.value at c.judge_nsec_with_witnesses-judged.ensures.judged) (rw c.deref-2.ensures.value at c.judge_nsec_with_witnesses-judged.ensures.witnesses));
+  is = ap (λ t. first_line c.args.shown c.args.question.now.name c.judge_nsec_with_witnesses-judged.result.answer
+      ++ below_text c.args.shown c.judge_nsec_with_witnesses-judged.result.answer t)
+      (c.nsec_parts-parts.ensures _ (rw c.deref-2.ensures.value at c.judge_nsec_with_witnesses-judged.ensures.judged)
+      (rw c.deref-2.ensures.value at c.judge_nsec_with_witnesses-judged.ensures.witnesses));
 }
 
 pub returns-in-Ok-clause-ok : goal.returns-in-Ok-clause-ok
