@@ -25,6 +25,9 @@ const (
 	TooManyIterations
 )
 
+// NXName is the code after those of enum denial_chain and enum denial_collision.
+const NXName Judgement = 50
+
 // String returns the text of a judgement.
 func (judgement Judgement) String() string {
 	return Text(uint32(judgement))

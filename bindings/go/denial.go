@@ -44,7 +44,8 @@ func Text(number uint32) string {
 
 // judged returns a judgement by its code.
 func judged(number C.uint32_t, labels C.size_t) (Judgement, int, error) {
-	if number < C.uint32_t(NotProven) || number > C.uint32_t(TooManyIterations) {
+	known := number >= C.uint32_t(NotProven) && number <= C.uint32_t(TooManyIterations)
+	if !known && number != C.uint32_t(NXName) {
 		return 0, 0, &Error{Fault: Fault(number), Offset: NoOffset}
 	}
 	return Judgement(number), int(labels), nil

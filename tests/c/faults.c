@@ -10,7 +10,7 @@
 
 #include <denial.h>
 
-enum { A = 1, NS = 2, CNAME = 5, SOA = 6, MX = 15, DNAME = 39, DS = 43, RRSIG = 46, NSEC = 47, NSEC3 = 50, NSEC3PARAM = 51 };
+enum { A = 1, NS = 2, CNAME = 5, SOA = 6, MX = 15, DNAME = 39, DS = 43, RRSIG = 46, NSEC = 47, NSEC3 = 50, NSEC3PARAM = 51, NXNAME = 128 };
 enum { IN = 1, CH = 3 };
 
 static int failures;
@@ -332,12 +332,12 @@ static void try_nsec3_verdicts(void)
 }
 
 static const int at_alias[] = {CNAME, RRSIG, NSEC, 0}, at_dname[] = {DNAME, RRSIG, NSEC, 0},
-                 at_signed_cut[] = {NS, DS, RRSIG, NSEC, 0};
+                 at_signed_cut[] = {NS, DS, RRSIG, NSEC, 0}, at_no_name[] = {RRSIG, NSEC, NXNAME, 0};
 
 /* Each whole answer that NSEC records give, over a whole chain. */
 static void try_nsec_answers(void)
 {
-    struct octets chain = {{0}, 0}, part = {{0}, 0}, none = {{0}, 0}, other = {{0}, 0};
+    struct octets chain = {{0}, 0}, part = {{0}, 0}, none = {{0}, 0}, other = {{0}, 0}, compact = {{0}, 0};
 
     put_nsec(&chain, "a.", IN, "alias.a.", at_apex);
     put_nsec(&chain, "alias.a.", IN, "*.c.a.", at_alias);
@@ -372,6 +372,9 @@ static void try_nsec_answers(void)
     ask(denial_judge_nsec, "a.", "a.", SOA, &none, DENIAL_JUDGED_NOT_PROVEN, 0);
     put_nsec(&other, "a.", CH, "a.", at_apex);
     ask(denial_judge_nsec, "a.", "a.", SOA, &other, DENIAL_JUDGED_NOT_PROVEN, 0);
+    put_nsec(&compact, "g.a.", IN, "h.g.a.", at_no_name);
+    ask(denial_judge_nsec, "a.", "g.a.", A, &compact, DENIAL_JUDGED_NXNAME, 0);
+    ask(denial_judge_nsec, "a.", "g.a.", NSEC, &compact, DENIAL_JUDGED_EXISTS, 0);
 }
 
 /* Each whole answer that two NSEC3 records give: that of the apex, and one that covers all the rest. */
@@ -565,11 +568,12 @@ static void try_texts(void)
         {DENIAL_JUDGED_MAY_BE_UNSIGNED, "may be unsigned"},
         {DENIAL_JUDGED_NO_CLOSER_NAME, "no closer name"},
         {DENIAL_JUDGED_TOO_MANY_ITERATIONS, "too many iterations"},
+        {DENIAL_JUDGED_NXNAME, "no such name"},
         {DENIAL_CHAIN_MADE, "chain made"},
         {DENIAL_NO_COLLISION, "no collision"},
         {DENIAL_NO_NAME + 1, "no number of this library"},
         {DENIAL_COLLISION + 1, "no number of this library"},
-        {DENIAL_NO_COLLISION + 1, "no number of this library"},
+        {DENIAL_JUDGED_NXNAME + 1, "no number of this library"},
         {UINT32_MAX, "no number of this library"},
     };
     size_t i;

@@ -122,9 +122,10 @@ static int is_answer(uint32_t answer, int call)
     if (is_fault(answer))
         return is_hashed || answer <= DENIAL_BAD_RECORDS;
     if (call & IS_JUDGED)
-        return answer >= DENIAL_JUDGED_NOT_PROVEN && answer <= DENIAL_JUDGED_TOO_MANY_ITERATIONS
-               && (is_hashed
-                   || (answer != DENIAL_JUDGED_MAY_BE_UNSIGNED && answer != DENIAL_JUDGED_TOO_MANY_ITERATIONS));
+        return answer == DENIAL_JUDGED_NXNAME
+               || (answer >= DENIAL_JUDGED_NOT_PROVEN && answer <= DENIAL_JUDGED_TOO_MANY_ITERATIONS
+                   && (is_hashed
+                       || (answer != DENIAL_JUDGED_MAY_BE_UNSIGNED && answer != DENIAL_JUDGED_TOO_MANY_ITERATIONS)));
     return answer <= DENIAL_NO_NAME && (is_hashed || answer != DENIAL_OPT_OUT);
 }
 

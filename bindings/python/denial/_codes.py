@@ -24,6 +24,7 @@ class Judgement(enum.IntEnum):
     MAY_BE_UNSIGNED = 45
     NO_CLOSER_NAME = 46
     TOO_MANY_ITERATIONS = 47
+    NXNAME = 50
 
 
 class Verdict(enum.IntEnum):

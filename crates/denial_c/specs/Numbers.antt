@@ -46,6 +46,7 @@ answer_told (answers.NameError count) = (44, count)
 answer_told (answers.MayBeUnsigned count) = (45, count)
 answer_told (answers.NoCloserName count) = (46, count)
 answer_told answers.TooManyIterations = (47, 0)
+answer_told answers.NxName = (50, 0)
 
 abbrev pub answer_number : Answer → ℕ
 answer_number answer = (answer_told answer).0
@@ -141,6 +142,7 @@ texts =
     ∷ (answer_number answers.TooManyIterations, codes "too many iterations")
     ∷ (chain_made, codes "chain made")
     ∷ (no_collision, codes "no collision")
+    ∷ (answer_number answers.NxName, codes "no such name")
     ∷ []
 
 -- the text of a number in a list, or a text that says that there is none

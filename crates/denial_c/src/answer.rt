@@ -46,6 +46,7 @@ pub(crate) fn answer_told(answer: Result<Answer, Fault>) -> (u32, usize)
         Ok(Answer::MayBeUnsigned(count)) => (45, count),
         Ok(Answer::NoCloserName(count)) => (46, count),
         Ok(Answer::TooManyIterations) => (47, 0),
+        Ok(Answer::NxName) => (50, 0),
         Err(fault) => (fault_number(fault), 0),
     }
 }

@@ -48,6 +48,7 @@ pub(crate) fn text_of(number: u32) -> &'static [u8; ROOM]
         47 => b"too many iterations\0\0\0\0\0\0\0\0\0\0\0\0\0",
         48 => b"chain made\0\0\0\0\0\0\0\0\0\0\0\0\0\0\0\0\0\0\0\0\0\0",
         49 => b"no collision\0\0\0\0\0\0\0\0\0\0\0\0\0\0\0\0\0\0\0\0",
+        50 => b"no such name\0\0\0\0\0\0\0\0\0\0\0\0\0\0\0\0\0\0\0\0",
         _ => b"no number of this library\0\0\0\0\0\0\0",
     }
 }

@@ -23,7 +23,8 @@ use Rattle.domain_answer.proofs.EncloserLemmas.{asked_bound}
 use Rattle.domain_answer.{proofs.EncloserLemmas.{parent_below, strictly_enclosed, wildcard_low, highest_of, encloser_less, all_told}, specs.Reading.IsFound}
 use Rattle.domain_answer.specs.Reading.{IsAnswered, LeavesOutBelowDname, is_missing, knows_wildcard, proved_answer, CountsWithin, RestsOn, cover_answer}
 use Rattle.domain_answer.specs.Reading.{listed_answer, listed_both, match_answer, reading, tells_occluded, tells_occluder, wildcard_answer, wildcard_both}
-use Rattle.domain_answer.specs.{Reading.{IsNameAnswer, absent_answer, name_answer}, ZoneAnswer.{asked_type, is_of_child, owned_answer, asterisk, encloser}}
+use Rattle.domain_answer.specs.{Reading.{IsNameAnswer, absent_answer, name_answer}, ZoneAnswer.{asked_type, is_of_child}}
+use Rattle.domain_answer.specs.ZoneAnswer.{nxname, owned_answer, asterisk, encloser}
 use Rattle.domain_answer.specs.ZoneAnswer.{highest_occluder, inside_answer, is_at_parent, missing_answer, name_exists, owns_type, wildcard_below, zone_answer}
 use Rattle.domain_answer.specs.declared.answer.Answer.{Answer, TheVariants.{OutsideZone, AtParent, Referral, Redirected, NoData, WildcardNoData, NameError}}
 use Rattle.domain_answer.specs.declared.answer.{Answer.TheVariants.{NoCloserName, NotProven}, NameAnswer.TheVariants.{Absent, Given}}
@@ -189,7 +190,7 @@ module _ {L : List ZoneRecord} {a : Name} {assume : Bool} {links : List Link} (f
         rw (there exists, none_above L a x (matched_high facts k i x m), exists, child_at k i)
         (owned_alike (is_at_cut a k) (is_zone_cut L a x) (contains_type k.bits) (owns_type L a assume x) (length k.owner) (length x) t
         (matched_cut k i x m) (λ c. matched_type k i x m (asked_type t) (asked_bound t bound)) (matched_type k i x m cname (omega arith))
-        (same_count k.owner x (same k i x m)))
+        (matched_type k i x m nxname (omega arith)) (same_count k.owner x (same k i x m)))
 
     module _ (k : Link) (stands : Stands links k) (c : covers before k.owner k.next x ≡ true) where
       told : tells_occluded a k x ≡ is_occluded true L a x
@@ -286,6 +287,12 @@ pub found_reads : (a : Name) (listed : List Link) (x : Name) (t : ℕ) → is_at
 found_reads a listed x t low apart None covered found = grind (arith, common_steps)
 found_reads a listed x t low apart (Some k) covered found = grind (arith, common_steps)
 
+-- and of a wildcard
+pub found_wild : (a : Name) (listed : List Link) (n : ℕ) (w : Name) (t : ℕ) (matched covered : Option Link) → IsFound a listed w matched covered
+    → wildcard_both a n w t matched covered ≡ wildcard_answer a listed n w t
+found_wild a listed n w t None covered found = grind (arith, common_steps)
+found_wild a listed n w t (Some k) covered found = grind (arith, common_steps)
+
 -- a cover that was found covers the name
 pub found_covers : (a : Name) (listed : List Link) (x : Name) (k : Link) → IsFound a listed x None (Some k) → covers before k.owner k.next x ≡ true
 found_covers a listed x k found = grind (arith, common_steps, (find_some (is_cover a x) listed k))
@@ -301,12 +308,6 @@ wildcard_own a listed n w t =
     (λ e f. refl) (λ k e. grind (arith, common_steps)) (λ k f. grind (arith, common_steps))
 
 module _ (a : Name) (listed : List Link) (x : Name) (t : ℕ) (whole : Answer) where
-  given_told : (said : Answer) → whole ≡ said → name_answer said ≡ Given said → IsNameAnswer whole a listed x t (Given said)
-  given_told said is own = grind (arith, common_steps)
-
-  pub match_told : (k : Link) (said : Answer) → whole ≡ match_answer a k t → said ≡ match_answer a k t → IsNameAnswer whole a listed x t (Given said)
-  match_told k said is same = given_told said (is ∙ sym same) (rw same (match_own a k t))
-
   pub cover_told : (k : Link) (n : ℕ) → whole ≡ cover_answer a listed k x t → tells_occluded a k x ≡ false → is_strictly_below k.next x ≡ false
       → n ≡ length (longer (shared x k.owner) (shared x k.next)) → covers before k.owner k.next x ≡ true → IsNameAnswer whole a listed x t (Absent n)
   cover_told k n is free none counts c = grind (arith, common_steps, encloser_less, wildcard_own)

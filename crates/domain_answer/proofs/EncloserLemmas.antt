@@ -14,10 +14,12 @@ use Rattle.domain_zone.specs.Zone.{is_occluded, is_unoccluded, is_zone_cut, occl
 use Rattle.domain_nsec.specs.Chain.{nsec_lists}
 use Rattle.domain_checker.proofs.{HashedVerdictLemmas.below_drop, MeantLemmas.{choose_by, cut_same, occluded_same, occludes_same, same_count, strictly_trans}}
 use Rattle.domain_checker.{proofs.MeantLemmas.top_occluder, specs.Verdict.closest_encloser}
-use Rattle.domain_answer.specs.{Reading.{IsAbsent, IsHere, IsRedirected, IsReferred, IsSo, wildcard_of}, ZoneAnswer.{expanded_answer, owned_answer, asterisk}}
+use Rattle.domain_answer.specs.{Reading.{IsAbsent, IsHere, IsRedirected, IsReferred, IsSo, wildcard_of}, ZoneAnswer.{expanded_answer, nxname}}
+use Rattle.domain_answer.specs.ZoneAnswer.{owned_answer, asterisk}
 use Rattle.domain_answer.specs.ZoneAnswer.{asked_type, highest_occluder, wildcard_below, encloser, inside_answer, is_at_parent, missing_answer, name_exists}
 use Rattle.domain_answer.specs.{ZoneAnswer.{occluded_answer, owns_type, unoccluded_answer, zone_answer}, declared.answer.Answer.Answer}
-use Rattle.domain_answer.specs.declared.answer.Answer.TheVariants.{NotProven, OutsideZone, AtParent, Referral, Redirected, Has, NoDs, Alias, NoData, Wildcard}
+use Rattle.domain_answer.specs.declared.answer.Answer.TheVariants.{NotProven, OutsideZone, AtParent, Referral, Redirected}
+use Rattle.domain_answer.specs.declared.answer.Answer.TheVariants.{Has, NoDs, Alias, NxName, NoData, Wildcard}
 use Rattle.domain_answer.specs.declared.answer.Answer.TheVariants.{WildcardAlias, WildcardNoData, NameError, MayBeUnsigned, NoCloserName, TooManyIterations}
 
 -- ---- the type that decides
@@ -27,12 +29,17 @@ unfolding asked_type
 asked_bound t bound = grind (arith, common_steps)
 
 pub owned_alike : (c d : Bool) (p q : ℕ → Bool) (m n t : ℕ) → c ≡ d → ((c && not (t == ds)) ≡ false → p (asked_type t) ≡ q (asked_type t))
-    → p cname ≡ q cname → m ≡ n → owned_answer c p m t ≡ owned_answer d q n t
-owned_alike c d p q m n t cut types alias count = grind (arith, common_steps)
+    → p cname ≡ q cname → p nxname ≡ q nxname → m ≡ n → owned_answer c p m t ≡ owned_answer d q n t
+owned_alike c d p q m n t cut types alias gone count = grind (arith, common_steps)
 
 pub expanded_alike : (c d : Bool) (p q : ℕ → Bool) (n t : ℕ) → c ≡ d → ((c && not (t == ds)) ≡ false → p (asked_type t) ≡ q (asked_type t))
     → p cname ≡ q cname → expanded_answer c p n t ≡ expanded_answer d q n t
 expanded_alike c d p q n t cut types alias = grind (arith, common_steps)
+
+-- the answer of a name that owns NXNAME, and not what is asked for
+fifth : (cut parent asked alias gone : Bool) (referral : Answer) → cut ≡ false → asked ≡ false → alias ≡ false → gone ≡ true
+    → cond (cut && not parent) referral (cond asked Has (cond cut NoDs (cond alias Alias (cond gone NxName NoData)))) ≡ NxName
+fifth cut parent asked alias gone referral a b c d = grind (arith, common_steps)
 
 -- where all is told that is needed, the answer v is proved
 pub all_told : (low parent told lacks : Bool) (v less : Answer) → (low ≡ true → told ≡ true) → (low ≡ true → lacks ≡ false)
@@ -235,14 +242,16 @@ module _ (L : List ZoneRecord) (a : Name) where
       existing_so there =
           let cut : Bool = is_zone_cut L a x in
           let owned : ℕ → Bool = owns_type L a assume x in
-          choose_by So (cut && not (t == ds)) (Referral (length x)) (cond (owned (asked_type t)) Has (cond cut NoDs (cond (owned cname) Alias NoData)))
+          let last : Answer = cond (owned nxname) NxName NoData in
+          choose_by So (cut && not (t == ds)) (Referral (length x)) (cond (owned (asked_type t)) Has (cond cut NoDs (cond (owned cname) Alias last)))
           (λ e.
           let p = and_parts cut (not (t == ds)) e in
           record { cut = x; count = refl; is_cut = p.0; free = here.free; below = inr (same_itself x x refl, not-true (t == ds) p.1) })
-          (λ e. choose_by So (owned (asked_type t)) Has (cond cut NoDs (cond (owned cname) Alias NoData)) (λ f. (here, f, e))
-          (λ f. choose_by So cut NoDs (cond (owned cname) Alias NoData)
+          (λ e. choose_by So (owned (asked_type t)) Has (cond cut NoDs (cond (owned cname) Alias last)) (λ f. (here, f, e))
+          (λ f. choose_by So cut NoDs (cond (owned cname) Alias last)
           (λ g. (here, f, g, not-false (t == ds) (ap (λ b. b && not (t == ds)) (sym g) ∙ e)))
-          (λ g. choose_by So (owned cname) Alias NoData (λ h. (here, f, g, h)) (λ h. (here, f, g, h, there)))))
+          (λ g. choose_by So (owned cname) Alias last (λ h. (here, f, g, h))
+          (λ h. choose_by So (owned nxname) NxName NoData (λ k. (here, f, g, h, k)) (λ k. (here, f, g, h, k, there))))))
 
       missing_so : name_exists L a x ≡ false → So (missing_answer L a assume (length (encloser L a x)) w t)
       missing_so gone =
@@ -325,6 +334,9 @@ module _ (L : List ZoneRecord) (a : Name) where
     so_answer Has h = grind (arith, common_steps, at_existing, owned_exists)
     so_answer NoDs h = grind (arith, common_steps, at_existing, owner_exists, cut_owns)
     so_answer Alias h = at_existing h.0 (owned_exists h.0 cname h.3) ∙ rw (h.1, h.3, h.2)
+    so_answer NxName h =
+        at_existing h.0 (owned_exists h.0 nxname h.4) ∙ fifth (is_zone_cut L a x) (t == ds) (owns_type L a assume x (asked_type t))
+        (owns_type L a assume x cname) (owns_type L a assume x nxname) (Referral (length x)) h.2 h.1 h.3 h.4
     so_answer NoData h = grind (arith, common_steps, at_existing)
     so_answer (Wildcard n) h = at_missing n h.0 ∙ rw (h.1, h.2) (ap Wildcard (sym h.0.count))
     so_answer (WildcardAlias n) h = at_missing n h.0 ∙ rw (h.1, h.2, h.3) (ap WildcardAlias (sym h.0.count))

@@ -32,7 +32,8 @@ use Rattle.domain_answer.specs.HashedReading.{IsWildcardRead, encloser_answer, f
 use Rattle.domain_answer.specs.HashedReading.{hashed_inside_answer, hashed_wildcard_answer, hashed_exists, hashed_zone_answer, proved_expansion, HasCloserProof}
 use Rattle.domain_answer.specs.{HashedReading.{HasEncloserProof, HashedRestsOn, wildcard_told, hashed_missing_answer, is_of_one_chain}, ZoneAnswer.is_at_parent}
 use Rattle.domain_answer.specs.ZoneAnswer.{wildcard_below, asterisk, encloser, highest_occluder, inside_answer, missing_answer, name_exists, owns_type}
-use Rattle.domain_answer.specs.{ZoneAnswer.{asked_type, zone_answer, is_of_child, wildcard_types_answer, owned_answer}, declared.answer.Answer.Answer}
+use Rattle.domain_answer.specs.{ZoneAnswer.{asked_type, nxname, zone_answer, is_of_child, wildcard_types_answer, owned_answer}, declared.answer.Answer.Answer}
+use Rattle.domain_answer.specs.declared.answer.Answer.TheVariants.{Alias, Has, NoData, NoDs, NxName}
 use Rattle.domain_answer.specs.declared.answer.Answer.TheVariants.{Referral, Redirected, MayBeUnsigned, NoCloserName, NotProven, NameError, TooManyIterations}
 use Rattle.domain_answer.specs.{declared.answer.Answer.TheVariants.{OutsideZone, AtParent}, Reading.{reading, LeavesOutBelowDname, CountsWithin}}
 use Rattle.domain_answer.specs.Judged.{IsExpansionJudged, IsHashedJudged, IsJudged}
@@ -182,7 +183,8 @@ module _ (L : List ZoneRecord) (a : Name) (config : ChainConfig) (listed : List 
           (λ j. k.cut j && k.types soa (omega arith) j) ∙ soa_unlisted L a config x in
           rw (child, k.closest.matched, k.closest.asked ∙ s, not_below L a config facts.means.cuts x k.there, k.there)
           (owned_alike (encloser_is_cut a e) (is_zone_cut L a x) (contains_type e.link.bits) (nsec3_lists L a config x) e.count (length x) t k.cut
-          (λ c. k.types (asked_type t) (asked_bound t bound)) (k.types cname (omega arith)) (is.counts ∙ same_count is.name x s))
+          (λ c. k.types (asked_type t) (asked_bound t bound)) (k.types cname (omega arith)) (k.types nxname (omega arith))
+          (is.counts ∙ same_count is.name x s))
 
       -- below a zone cut
       at_cut : same_name is.name x ≡ false → encloser_is_cut a e ≡ true → Referral e.count ≡ inside
@@ -299,6 +301,12 @@ module _ (R : HashedRecords) (x : Name) (t : ℕ) (answer : Answer) where
       choose_by Fits (is_opt_out k.flags) (MayBeUnsigned n) (NameError n) (λ out. (closer, less)) (λ out. ((closer, there), less)))
       (λ unmatched uncovered. (closer, less))
 
+  own_fits : (cut : Bool) (owned : ℕ → Bool) (n : ℕ) → HasEncloserProof R x n → n ≤ length x → is_matched R x ≡ true → Fits (owned_answer cut owned n t)
+  own_fits cut owned n encloser within itself =
+      choose_by Fits (cut && not (t == ds)) (Referral n) _ (λ e. (encloser, within)) (λ e. choose_by Fits (owned (asked_type t)) Has _ (λ f. (itself, tt))
+      (λ f. choose_by Fits cut NoDs _ (λ g. (itself, tt)) (λ g. choose_by Fits (owned cname) Alias _ (λ h. (itself, tt))
+      (λ h. choose_by Fits (owned nxname) NxName NoData (λ k. (itself, tt)) (λ k. (itself, tt))))))
+
   fits : (found : Option Encloser) → IsFoundEncloser R x found → IsReadOn R x t (found_answer R.apex found (length x) t) answer → Fits answer
   fits None is ends = subst Fits (sym ends) (tt, tt)
   fits (Some e) is ends =
@@ -307,7 +315,9 @@ module _ (R : HashedRecords) (x : Name) (t : ℕ) (answer : Answer) where
       let less : same_name is.name x ≡ false → e.count < length x = shorter is in
       let closer : is_covered R (next_closer x is.name) ≡ true → HasCloserProof R x e.count = λ c. record { encloser = encloser; covered = c } in
       by_encloser R x t answer Fits e is ends
-      (λ s. let itself : is_matched R x ≡ true = sym (matched_same R is.name x s) ∙ is.first.found in grind (arith, common_steps))
+      (λ s. let itself : is_matched R x ≡ true = sym (matched_same R is.name x s) ∙ is.first.found in
+      choose_by Fits (is_of_child (encloser_is_cut R.apex e) e.link.bits) NotProven _ (λ c. (tt, tt))
+      (λ c. own_fits (encloser_is_cut R.apex e) (contains_type e.link.bits) e.count encloser within itself))
       (λ s c. (encloser, within)) (λ s c d. (encloser, within)) (λ s c d u. (tt, tt)) (λ c d out. (closer c.covered, less c.other))
       (λ c d out read. wildcard_fits e.count (closer c.covered) (less c.other) read)
 
@@ -568,7 +578,7 @@ module _ (L : List ZoneRecord) (a : Name) (config : ChainConfig) (x : Name) (t :
     existing =
         owned_alike (is_zone_cut L a x) (is_zone_cut L a x) (nsec3_lists L a config x) (owns_type L a assume x) (length x) (length x) t refl
         (λ e. types_alike L a config x (asked_type t) (asked_apart a x t apart) (signed_at t (is_zone_cut L a x) e)) (types_alike L a config x cname refl refl)
-        refl
+        (types_alike L a config x nxname refl refl) refl
 
     wildcard : hashed_wildcard_answer L a config (length zone_encloser) wild t ≡ missing_answer L a assume (length zone_encloser) wild t
     wildcard = λ i. cond (not (exists_over (owners_are L a config out leaves i) a wild)) (NameError (length zone_encloser))

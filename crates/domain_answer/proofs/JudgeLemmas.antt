@@ -1,30 +1,17 @@
--- What is searched for a closest encloser within a limit of names, and what the records say by it.
+-- What the records say by what was found for the closest encloser of a name.
 use Rattle.domain_answer.proofs.HashedAnswerLemmas.{IsAsked, asked_below}
-use Rattle.domain_answer.specs.HashedReading.{IsHashedRead, IsReadOn, IsWildcardRead, found_answer}
+use Rattle.domain_answer.specs.HashedReading.{IsHashedRead, IsHashedWildcardWitness, IsReadOn, IsWildcardRead, found_answer}
 use Rattle.domain_answer.specs.declared.answer.Answer.{Answer, TheVariants.NoCloserName}
-use Rattle.domain_checker.specs.HashedIndex.{IsPast, IsSearched}
 use Rattle.domain_checker.specs.{HashedReading.{Encloser, IsFoundEncloser}, HashedVerdict.HashedRecords}
 use Rattle.domain_names.specs.Name.{Name}
-use Rattle.std.proofs.{Common.{None, Option, Some, arith, length, refl, ℕ, ◌∙◌, ◌≡◌}, lemmas.Grind.common_steps}
-use Rattle.std.specs.Option.{option_map}
+use Rattle.std.proofs.{Common.{None, Option, arith, length, refl, subst, sym, ℕ, ◌∙◌, ◌≡◌}, lemmas.Grind.common_steps}
 
-module _ (R : HashedRecords) (x : Name) (t names : ℕ) where
-  -- none is said where the limit is reached
-  pub searched_past : (found : Option (Option Encloser)) → IsSearched R x names found
-      → option_map (λ f. found_answer R.apex f (length x) t) found ≡ None → IsPast R x names
-  searched_past None is e = is
-  searched_past (Some f) is e = absurd (cc)
-
-  -- else what is said is by the closest encloser, if there is one
+module _ (R : HashedRecords) (x : Name) (t : ℕ) where
+  -- what is said without the wildcard
   pub record IsSaid (answer : Answer) : Type 0 where
     pub found : Option Encloser
     pub is : IsFoundEncloser R x found
     pub says : found_answer R.apex found (length x) t ≡ answer
-
-  pub searched_said : (found : Option (Option Encloser)) → IsSearched R x names found → (answer : Answer)
-      → option_map (λ f. found_answer R.apex f (length x) t) found ≡ Some answer → IsSaid answer
-  searched_said None is answer e = absurd (cc)
-  searched_said (Some f) is answer e = record { found = f; is = is.0; says = cc }
 
   -- what is said is what the records say, by the wildcard where that is asked for
   pub read_wild : (first answer : Answer) → IsSaid first → (n : ℕ) → first ≡ NoCloserName n → IsWildcardRead R x t n answer
@@ -35,6 +22,15 @@ module _ (R : HashedRecords) (x : Name) (t names : ℕ) where
   read_first answer said other = record { found = said.found; is = said.is; ends = rw said.says (same answer other) }
     where
       same : (first : Answer) → ((n : ℕ) → first ≡ NoCloserName n → ⊥) → IsReadOn R x t first first
+      same (NoCloserName n) other = absurd (other n refl)
+      same first other = grind (arith, common_steps)
+
+  -- without a question about the wildcard nothing was found for it
+  pub first_witness : (found : Option Encloser) (first : Answer) → found_answer R.apex found (length x) t ≡ first
+      → ((n : ℕ) → first ≡ NoCloserName n → ⊥) → IsHashedWildcardWitness R x t (found_answer R.apex found (length x) t) first None
+  first_witness found first says other = subst (λ a. IsHashedWildcardWitness R x t a first None) (sym says) (same first other)
+    where
+      same : (first : Answer) → ((n : ℕ) → first ≡ NoCloserName n → ⊥) → IsHashedWildcardWitness R x t first first None
       same (NoCloserName n) other = absurd (other n refl)
       same first other = grind (arith, common_steps)
 

@@ -1,14 +1,15 @@
 -- What NSEC3 records alone answer, and what they prove of what the zone says.
 use Rattle.std.specs.Prelude.{ℕ, Bool, not, ◌&&◌, ◌||◌, ◌==◌, List, length, if◌then◌else◌, ◌≡◌, ◌⊎◌, Option, Some, None, Ok, Err, true, false, All, ◌+◌, nat_le}
 use Rattle.std.specs.{Prelude.nat_lt, Option.option_map}
-use Rattle.domain_names.specs.Name.{is_at_or_below, same_name, last_labels, Name}
+use Rattle.domain_names.specs.Name.{is_at_or_below, same_name, last_labels, lowered, wire_of, Name}
 use Rattle.domain_base.specs.Types.{dname, nsec, nsec3param, ns}
 use Rattle.domain_chain_rdata.specs.Rdata.{is_opt_out}
 use Rattle.domain_zone.specs.{Enclosers.exists_over, Zone.{ZoneRecord, is_zone_cut}}
 use Rattle.domain_nsec3.specs.{Chain.{ChainConfig, hash_name, nsec3_lists, original_owners, HashedLink, IsHashedChain}, Meaning.{AreAlone, IsAlone}}
 use Rattle.domain_checker.specs.HashedVerdict.{is_below_chain_cut, IsFirstRefusal, is_covered, is_matched, next_closer, IsFirstMatched, HashedRecords}
 use Rattle.domain_checker.specs.{HashedVerdict.{first_cover, first_match, chain_records}, Verdict.{closest_encloser, IsHashedAlike, IsPairedIn}}
-use Rattle.domain_checker.specs.HashedReading.{Encloser, encloser_is_cut, IsEncloser, IsFoundEncloser}
+use Rattle.domain_checker.specs.HashedReading.{found_cover, found_match, Encloser, encloser_is_cut, IsEncloser, IsFoundEncloser, IsLookedUp}
+use Rattle.domain_checker.specs.declared.nsec3.Nsec3Found.{Nsec3Found}
 use Rattle.domain_answer.specs.ZoneAnswer.{expanded_answer, owned_answer, types_answer, wildcard_types_answer, is_at_parent, wildcard_below}
 use Rattle.domain_answer.specs.declared.answer.Answer.{Answer, TheVariants.{OutsideZone, AtParent, Referral, Redirected, NameError, MayBeUnsigned}}
 use Rattle.domain_answer.specs.declared.answer.Answer.TheVariants.{NoCloserName, NotProven, Wildcard, WildcardAlias, WildcardNoData, TooManyIterations}
@@ -111,6 +112,23 @@ pub record IsTold (R : HashedRecords) (y : Name)
   pub value : Octets
   pub known : hash_name R.hash y ≡ Ok value
   pub says : answer ≡ told (first_match R value) (first_cover R value)
+
+-- the match and the cover that were found for a name
+abbrev pub hashed_finding_of : {O N : Type 0} → (N → Name) → Nsec3Found O N
+    → Option HashedLink × Option HashedLink
+hashed_finding_of labels f = (found_match labels f, found_cover labels f)
+
+abbrev pub AreLookedUp : HashedRecords → Name → Option HashedLink × Option HashedLink → Type 0
+AreLookedUp R y f = IsLookedUp R (wire_of (lowered y)) f.0 f.1
+
+-- what was found for the wildcard below the closest encloser, if only that is left to decide, and
+-- the answer; the fourth argument is the answer without the wildcard
+abbrev pub IsHashedWildcardWitness : HashedRecords → Name → ℕ → Answer → Answer
+    → Option (Option HashedLink × Option HashedLink) → Type 0
+IsHashedWildcardWitness R x t (NoCloserName n) answer None = ⊥
+IsHashedWildcardWitness R x t (NoCloserName n) answer (Some f) =
+    AreLookedUp R (wildcard_below (last_labels n x)) f × (answer ≡ wildcard_told n t f.0 f.1)
+IsHashedWildcardWitness R x t first answer found = (found ≡ None) × (answer ≡ first)
 
 -- the answer is what the list says of x by the wildcard below the last n labels of x
 abbrev pub IsWildcardRead : HashedRecords → Name → ℕ → ℕ → Answer → Type 0

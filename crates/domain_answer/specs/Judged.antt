@@ -3,10 +3,15 @@ use Rattle.std.specs.Prelude.{Option, Some, None, ◌≡◌, ◌⊎◌, ◌<◌,
 use Rattle.domain_names.specs.Name.{is_at_or_below, Name}
 use Rattle.domain_hasher.specs.declared.error.Nsec3HashError.{Nsec3HashError, TheVariants.{Hasher, OutOfMemory}}
 use Rattle.domain_nsec.specs.Chain.{Link}
-use Rattle.domain_nsec3.specs.Chain.{hash_name}
+use Rattle.domain_nsec3.specs.Chain.{hash_name, HashedLink}
+use Rattle.std.specs.Option.{option_map}
+use Rattle.domain_checker.specs.HashedReading.{encloser_of, Encloser, IsFoundEncloser}
+use Rattle.domain_answer.specs.declared.judge.{Nsec3Expansion.Nsec3Expansion, Nsec3Judgement.Nsec3Judgement}
+use Rattle.domain_answer.specs.HashedReading.{found_answer, hashed_finding_of, AreLookedUp, IsHashedWildcardWitness}
 use Rattle.domain_checker.specs.{HashedIndex.IsPast, HashedVerdict.HashedRecords}
 use Rattle.domain_answer.specs.HashedReading.{closer_name, is_expanded, ExpansionRestsOn, IsExpansionAnswered, IsExpansionRead, HashedRestsOn, IsHashedAnswered}
-use Rattle.domain_answer.specs.{HashedReading.{IsFirstOfRefusals, IsHashedRead}, Reading.{needs_no_records, CountsWithin, IsAnswered, RestsOn, reading}}
+use Rattle.domain_answer.specs.{HashedReading.{IsFirstOfRefusals, IsHashedRead}, Reading.{AreFound, IsWildcardWitness, name_answer}}
+use Rattle.domain_answer.specs.Reading.{needs_no_records, CountsWithin, IsAnswered, RestsOn, reading}
 use Rattle.domain_answer.specs.{ZoneAnswer.is_at_parent, declared.answer.Answer.{Answer, TheVariants.{OutsideZone, AtParent, TooManyIterations, NotProven}}}
 use Rattle.domain_answer.specs.declared.limits.Nsec3Limits.{Nsec3Limits}
 
@@ -21,6 +26,15 @@ pub record IsJudged (listed : List Link) (a x : Name) (t : ℕ) (answer : Answer
   pub exact : answer ≡ reading a listed x t
   -- and the labels that the answer counts are labels of the name; a closest encloser has fewer
   pub within : CountsWithin (length x) answer
+
+-- what was found for the names that were looked up for an answer: for x, unless it is outside the
+-- zone, and for the wildcard below the closest encloser, if x does not exist
+pub record AreNsecWitnesses (listed : List Link) (a x : Name) (answer : Answer)
+    (of_name : Option Link × Option Link) (of_wildcard : Option (Option Link × Option Link))
+    : Type 0 where
+  pub name : is_at_or_below x a ≡ true → AreFound a listed x of_name
+  pub outside : is_at_or_below x a ≡ false → of_name ≡ (None, None)
+  pub wildcard : IsWildcardWitness a listed x (name_answer answer) of_wildcard
 
 -- the contract of what NSEC3 records answer with at most `limit` iterations, or of the error in its
 -- place
@@ -55,6 +69,35 @@ IsJudgedWithin R x t limits (Ok None) =
     × IsPast R x limits.names
 IsJudgedWithin R x t limits (Err e) = IsHashedJudged R x t limits.iterations (Err e)
 
+-- what was found for the names that were looked up for an answer: for the closest encloser of x and
+-- the next closer name, and for the wildcard below the closest encloser
+pub record AreHashedWitnesses (R : HashedRecords) (x : Name) (t limit : ℕ) (answer : Answer)
+    (of_encloser : Option Encloser)
+    (of_wildcard : Option (Option HashedLink × Option HashedLink)) : Type 0 where
+  pub encloser : needs_no_records R.apex x t ≡ false → R.parameters.iterations ≤ limit
+      → IsFoundEncloser R x of_encloser
+  pub wildcard : needs_no_records R.apex x t ≡ false → R.parameters.iterations ≤ limit
+      → IsHashedWildcardWitness R x t (found_answer R.apex of_encloser (length x) t) answer
+      of_wildcard
+  -- if no name was looked up, nothing was found
+  pub none : (needs_no_records R.apex x t ≡ true) ⊎ (limit < R.parameters.iterations)
+      → (of_encloser ≡ None) × (of_wildcard ≡ None)
+
+abbrev pub HasWitnesses : {O N : Type 0} → (N → Name) → HashedRecords → Name → ℕ → ℕ
+    → Result (Option (Nsec3Judgement O N)) Nsec3HashError → Type 0
+HasWitnesses labels R x t limit (Ok (Some j)) =
+    AreHashedWitnesses R x t limit j.answer (option_map (encloser_of labels) j.encloser)
+    (option_map (hashed_finding_of labels) j.wildcard)
+HasWitnesses labels R x t limit (Ok None) = Unit {0}
+HasWitnesses labels R x t limit (Err e) = Unit {0}
+
+-- the answer without its witnesses
+abbrev pub answer_in : {O N : Type 0} → Result (Option (Nsec3Judgement O N)) Nsec3HashError
+    → Result (Option Answer) Nsec3HashError
+answer_in (Ok (Some j)) = Ok (Some j.answer)
+answer_in (Ok None) = Ok None
+answer_in (Err e) = Err e
+
 -- the contract of what NSEC3 records answer for a name whose records were expanded from a wildcard,
 -- with signatures whose Labels field is n
 pub record IsExpansionJudged (R : HashedRecords) (x : Name) (n limit : ℕ)
@@ -76,3 +119,17 @@ pub record IsExpansionJudged (R : HashedRecords) (x : Name) (n limit : ℕ)
   -- an error is the hasher's for the one name that is hashed, or out of memory
   pub refusal : (m : ℕ) → IsErrOf result (Hasher m) → hash_name R.hash (closer_name n x) ≡ Err m
   pub errors : IfErr result (λ e. (e ≡ OutOfMemory) ⊎ ((m : ℕ) × (e ≡ Hasher m)))
+
+-- what was found for the next closer name, if it was looked up
+pub record IsExpansionWitness (R : HashedRecords) (x : Name) (n limit : ℕ)
+    (found : Option (Option HashedLink × Option HashedLink)) : Type 0 where
+  pub closer : is_expanded R.apex x n ≡ true → R.parameters.iterations ≤ limit
+      → (f : Option HashedLink × Option HashedLink) × (found ≡ Some f)
+      × AreLookedUp R (closer_name n x) f
+  pub none : (is_expanded R.apex x n ≡ false) ⊎ (limit < R.parameters.iterations) → found ≡ None
+
+-- the answer without its witness
+abbrev pub expansion_answer_in : {O N : Type 0} → Result (Nsec3Expansion O N) Nsec3HashError
+    → Result Answer Nsec3HashError
+expansion_answer_in (Ok made) = Ok made.answer
+expansion_answer_in (Err e) = Err e

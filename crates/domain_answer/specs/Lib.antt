@@ -2,3 +2,4 @@ pub mod ZoneAnswer
 pub mod Reading
 pub mod HashedReading
 pub mod Judged
+pub mod Needs

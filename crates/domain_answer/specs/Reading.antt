@@ -8,9 +8,10 @@ use Rattle.domain_nsec.specs.{Chain.{Link, IsChain, as_link}, declared.config.Ge
 use Rattle.domain_checker.specs.{Reading.{is_cover, is_match, is_at_cut}, Verdict.{IsAlike, IsPairedIn, has_match_or_cover, HasProof}}
 use Rattle.domain_answer.specs.declared.{found.{NsecCover.NsecCover, NsecFound.{NsecFound, TheVariants.{Match, NoMatch}}}, answer.Answer.Answer}
 use Rattle.domain_answer.specs.declared.answer.Answer.TheVariants.{OutsideZone, AtParent, Referral, Redirected, NoData, Wildcard, WildcardAlias, WildcardNoData}
-use Rattle.domain_answer.specs.declared.answer.Answer.TheVariants.{NameError, NoCloserName, NotProven, MayBeUnsigned, TooManyIterations, Has, NoDs, Alias}
+use Rattle.domain_answer.specs.declared.answer.Answer.TheVariants.{NameError, NoCloserName, NotProven, MayBeUnsigned, TooManyIterations}
+use Rattle.domain_answer.specs.declared.answer.Answer.TheVariants.{Has, NoDs, Alias, NxName}
 use Rattle.domain_answer.specs.{declared.answer.NameAnswer.{NameAnswer, TheVariants.{Given, Absent}}, ZoneAnswer.{types_answer, wildcard_types_answer}}
-use Rattle.domain_answer.specs.ZoneAnswer.{asked_type, is_at_parent, wildcard_below, encloser, name_exists, zone_answer, owns_type}
+use Rattle.domain_answer.specs.ZoneAnswer.{asked_type, is_at_parent, nxname, wildcard_below, encloser, name_exists, zone_answer, owns_type}
 use Rattle.domain_bitmap.specs.Blocks.{contains_type}
 use Rattle.domain_base.specs.Types.{dname, cname, ds}
 
@@ -36,6 +37,10 @@ abbrev pub found_cover : {O N : Type 0} → (N → Name) → NsecFound O N → O
 found_cover labels (Match k) = None
 found_cover labels (NoMatch cover) = option_map (cover_link labels) cover
 
+-- both
+abbrev pub finding_of : {O N : Type 0} → (N → Name) → NsecFound O N → Option Link × Option Link
+finding_of labels f = (found_match labels f, found_cover labels f)
+
 abbrev pub IsCovered : {O N : Type 0} → (N → Name) → Name → NsecFound O N → Type 0
 IsCovered labels x (Match k) = Unit {0}
 IsCovered labels x (NoMatch cover) = IfSome cover (IsSharing labels x)
@@ -45,6 +50,10 @@ pub record IsFound (a : Name) (listed : List Link) (x : Name) (matched covered :
     : Type 0 where
   pub matching : matched ≡ find (is_match a x) listed
   pub covering : matched ≡ None → covered ≡ find (is_cover a x) listed
+
+-- the same as a pair
+abbrev pub AreFound : Name → List Link → Name → Option Link × Option Link → Type 0
+AreFound a listed x f = IsFound a listed x f.0 f.1
 
 -- ---- What NSEC records alone answer (RFC 4035, section 5.4; RFC 6840, sections 4.1, 4.3 and 4.4).
 
@@ -128,6 +137,14 @@ pub record IsNameAnswer (whole : Answer) (a : Name) (listed : List Link) (x : Na
     (told : NameAnswer) : Type 0 where
   pub exact : told ≡ name_answer whole
   pub absent : (n : ℕ) → told ≡ Absent n → (whole ≡ absent_answer a listed n x t) × (n < length x)
+
+-- what was found for the wildcard below the closest encloser, if the name does not exist
+abbrev pub IsWildcardWitness : Name → List Link → Name → NameAnswer
+    → Option (Option Link × Option Link) → Type 0
+IsWildcardWitness a listed x (Given answer) found = found ≡ None
+IsWildcardWitness a listed x (Absent n) None = ⊥
+IsWildcardWitness a listed x (Absent n) (Some f) =
+    AreFound a listed (wildcard_below (last_labels n x)) f
 
 -- ---- What a list of records of a zone's NSEC chain proves of what the zone says.
 
@@ -254,9 +271,13 @@ IsSo L a assume x t NoDs =
 IsSo L a assume x t Alias =
     IsHere L a x t × (owns_type L a assume x (asked_type t) ≡ false) × (is_zone_cut L a x ≡ false)
     × (owns_type L a assume x cname ≡ true)
+IsSo L a assume x t NxName =
+    IsHere L a x t × (owns_type L a assume x (asked_type t) ≡ false) × (is_zone_cut L a x ≡ false)
+    × (owns_type L a assume x cname ≡ false) × (owns_type L a assume x nxname ≡ true)
 IsSo L a assume x t NoData =
     IsHere L a x t × (owns_type L a assume x (asked_type t) ≡ false) × (is_zone_cut L a x ≡ false)
-    × (owns_type L a assume x cname ≡ false) × (name_exists L a x ≡ true)
+    × (owns_type L a assume x cname ≡ false) × (owns_type L a assume x nxname ≡ false)
+    × (name_exists L a x ≡ true)
 IsSo L a assume x t (Wildcard n) =
     IsAbsent L a x t n × (name_exists L a (wildcard_of L a x) ≡ true)
     × (is_answered_below L a assume x t ≡ true)

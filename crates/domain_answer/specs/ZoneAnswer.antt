@@ -3,7 +3,7 @@ use Rattle.std.specs.{Prelude.{ℕ, Bool, not, ◌&&◌, ◌||◌, ◌==◌, if�
 use Rattle.domain_octets.specs.Octets.{Octets}
 use Rattle.domain_base.specs.Types.{cname, ds, rrsig, soa}
 use Rattle.domain_bitmap.specs.Blocks.{contains_type}
-use Rattle.domain_answer.specs.declared.answer.Answer.{Answer, TheVariants.{Referral, Has, NoDs, Alias, NoData, NotProven, Wildcard, WildcardAlias}}
+use Rattle.domain_answer.specs.declared.answer.Answer.{Answer, TheVariants.{Referral, Has, NoDs, Alias, NxName, NoData, NotProven, Wildcard, WildcardAlias}}
 use Rattle.domain_answer.specs.declared.answer.Answer.TheVariants.{WildcardNoData, OutsideZone, AtParent, Redirected, NameError}
 use Rattle.domain_names.specs.Name.{is_at_or_below, same_name, Label, Name}
 use Rattle.domain_zone.specs.{Enclosers.exists_over, Zone.{ZoneRecord, is_zone_cut, occludes, owns, unoccluded_owners}}
@@ -21,6 +21,11 @@ any = 255
 unfoldable pub asked_type : ℕ → ℕ
 asked_type t = if t == any then rrsig else t
 
+-- the type that the record of a name lists if the signer says that the name does not exist (RFC
+-- 9824, section 3)
+abbrev pub nxname : ℕ
+nxname = 128
+
 -- the answer for type t at a name that has n labels and owns these types; at_cut says whether it is
 -- a zone cut
 abbrev pub owned_answer : Bool → (ℕ → Bool) → ℕ → ℕ → Answer
@@ -28,7 +33,8 @@ owned_answer at_cut owns n t =
     if at_cut && not (t == ds) then Referral n else
     (if owns (asked_type t) then Has else
     (if at_cut then NoDs else
-    (if owns cname then Alias else NoData)))
+    (if owns cname then Alias else
+    (if owns nxname then NxName else NoData))))
 
 -- the answer if that name is a wildcard, for a name whose closest encloser, right above the
 -- wildcard, has n labels

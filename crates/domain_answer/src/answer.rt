@@ -24,6 +24,9 @@ pub enum Answer {
     NoDs,
     /// The name owns a CNAME record, which answers in place of the type (RFC 1034, section 3.6.2).
     Alias,
+    /// The signer says that the name does not exist: its record lists NXNAME, and neither the type
+    /// nor CNAME (RFC 9824, section 3). It proves less than `NameError`: nothing of other names.
+    NxName,
     /// The name exists but owns no records of the type: it owns records of other types, or is an
     /// empty non-terminal (RFC 2308, section 2.2).
     NoData,

@@ -1,8 +1,8 @@
 //! What NSEC3 records prove about a name whose records were expanded from a wildcard.
 ghost use Rattle.std.specs.Prelude.{◌≡◌, IsErrOf};
 ghost use Rattle.domain_hasher.specs.declared.error.Nsec3HashError.TheVariants as hash_error;
-ghost use Rattle.domain_checker.specs.HashedVerdict.{hashed_records};
-ghost use Rattle.domain_answer.specs.{HashedReading.is_expanded, Judged.IsExpansionJudged};
+ghost use Rattle.domain_checker.specs.{HashedReading.{found_cover, found_match}, HashedVerdict.hashed_records};
+ghost use Rattle.domain_answer.specs.{HashedReading.{closer_told, is_expanded}, Judged.IsExpansionJudged};
 
 use crate::Answer;
 use crate::nsec3::{next_answer, opt_out_of};
@@ -20,6 +20,21 @@ pub(crate) fn is_expanded<A: ToName, M: ToName>(apex: &A, name: &M, labels: usiz
     ensures { result ≡ is_expanded (A.labels apex.now) (M.labels name.now) labels }
 {
     name.ends_with(apex) && apex.count_labels() <= labels && labels < name.count_labels()
+}
+
+/// Returns what the record that was found for the next closer name says of a name that was expanded
+/// from the wildcard right below its last `labels` labels.
+pub(crate) fn closer_told<O: Octets, N: ToName>(
+    labels: usize,
+    found: &Nsec3Found<'_, O, N>,
+) -> Answer
+    ensures { result ≡ closer_told labels (found_match N.labels found.now)
+        (found_cover N.labels found.now) }
+{
+    match found {
+        Nsec3Found::Match(_) => Answer::NotProven,
+        Nsec3Found::NoMatch(cover) => next_answer(labels, opt_out_of(*cover)),
+    }
 }
 
 /// Returns what NSEC3 records prove about a name whose records were expanded from a wildcard (RFC
@@ -77,8 +92,5 @@ pub fn judge_nsec3_expansion<A: ToName, O: Octets, N: ToName, M: ToName, H: Nsec
     // The count of labels is a usize, and a smaller number plus one is too.
     let _count = name.count_labels();
     let closer = name.last_labels(labels + 1);
-    match find_nsec3(alloc, apex, records, &closer, hasher)? {
-        Nsec3Found::Match(_) => Ok(Answer::NotProven),
-        Nsec3Found::NoMatch(cover) => Ok(next_answer(labels, opt_out_of(cover))),
-    }
+    Ok(closer_told(labels, &find_nsec3(alloc, apex, records, &closer, hasher)?))
 }

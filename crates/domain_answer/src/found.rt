@@ -17,6 +17,7 @@ pub struct NsecCover<'a, O: Octets, N: ToName> {
 }
 
 /// What one pass over records finds for a name.
+#[derive(Drop)]
 pub enum NsecFound<'a, O: Octets, N: ToName> {
     /// The first record that matches the name.
     Match(&'a NsecRr<O, N>),

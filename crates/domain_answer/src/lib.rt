@@ -12,6 +12,9 @@
 //! hasher for the hashes of names. `specs/HashedReading` defines what such a zone answers, what
 //! records of its chain say, and what they prove. `judge_nsec3_expansion` judges a name whose
 //! records were expanded from a wildcard.
+//!
+//! The functions with `witness` in their names also return the records that the answer rests on.
+//! `needs_of` says which of these a response needs.
 #![tactic(auto)]
 
 mod answer;
@@ -20,6 +23,7 @@ mod found;
 mod judge;
 pub mod laws;
 mod limits;
+mod needs;
 mod nsec;
 mod nsec3;
 mod of_types;
@@ -28,9 +32,15 @@ mod wildcard;
 pub use answer::{Answer, NameAnswer};
 pub use expansion::judge_nsec3_expansion;
 pub use found::{NsecCover, NsecFound, find_nsec};
-pub use judge::{judge_nsec3_index, judge_nsec3_index_expansion, judge_nsec3_within};
+pub use judge::{
+    Nsec3Expansion, Nsec3Judgement, judge_nsec3_expansion_with_witness, judge_nsec3_index,
+    judge_nsec3_index_expansion, judge_nsec3_with_witnesses, judge_nsec3_within,
+};
 pub use limits::Nsec3Limits;
-pub use nsec::{is_at_parent, judge_name, judge_nsec, judge_wildcard};
+pub use needs::{Needs, needs_of, needs_wildcard_record, wildcard_count};
+pub use nsec::{
+    NsecJudgement, is_at_parent, judge_name, judge_nsec, judge_nsec_with_witnesses, judge_wildcard,
+};
 pub use nsec3::{encloser_answer, judge_nsec3};
 pub use of_types::{types_answer, wildcard_types_answer};
 pub use wildcard::wildcard_of;

@@ -1,7 +1,11 @@
 //! What records of an NSEC chain answer.
-ghost use Rattle.std.specs.Prelude.{◌≡◌};
-ghost use Rattle.domain_nsec.specs.Chain.{as_link, links_of};
-ghost use Rattle.domain_answer.specs.{Judged.IsJudged, Reading.{reading, tells_occluded, wildcard_answer, IsNameAnswer}, ZoneAnswer.is_at_parent};
+ghost use Rattle.std.specs.{Prelude.{◌≡◌, List, true}, Option.option_map};
+ghost use Rattle.domain_names.specs.Name.{is_at_or_below};
+ghost use Rattle.domain_nsec.specs.Chain.{as_link, links_of, Link};
+ghost use Rattle.domain_answer.specs.{Judged.{AreNsecWitnesses, IsJudged}, ZoneAnswer.is_at_parent};
+ghost use Rattle.domain_answer.specs.Reading.{finding_of, found_cover, found_match, reading, tells_occluded};
+ghost use Rattle.domain_answer.specs.Reading.{wildcard_answer, wildcard_both, IsCovered, IsFound};
+ghost use Rattle.domain_answer.specs.Reading.{IsNameAnswer};
 
 use crate::found::{NsecFound, find_nsec};
 use crate::of_types::{types_answer, wildcard_types_answer};
@@ -35,21 +39,19 @@ fn tells_occluded<A: ToName, O: Octets, N: ToName, M: ToName>(
         && (is_at_cut(apex, listed) || listed.data().types().contains(Rtype::DNAME))
 }
 
-/// Returns what records of an NSEC chain answer to a question about a type and a name that is known
-/// not to exist, whose closest encloser has `count` labels. Pass the wildcard right below the
-/// closest encloser as `wildcard` (RFC 4035, section 3.1.3.4): the answer is what the records say
-/// of it, or `NoCloserName` if they say nothing.
-pub fn judge_wildcard<A: ToName, O: Octets, N: ToName>(
+/// Returns what records say of a name that does not exist, whose closest encloser has `count`
+/// labels, given what was found for the wildcard right below the closest encloser.
+fn wildcard_told<A: ToName, O: Octets, N: ToName>(
     apex: &A,
-    chain: &[Record<N, Nsec<O, N>>],
+    found: &NsecFound<'_, O, N>,
     count: usize,
     wildcard: &ParsedName<'_>,
     rtype: Rtype,
 ) -> Answer
-    ensures { result ≡ wildcard_answer (A.labels apex.now) (links_of N.labels chain.now) count
-        wildcard.now rtype }
+    ensures { result ≡ wildcard_both (A.labels apex.now) count wildcard.now rtype
+        (found_match N.labels found.now) (found_cover N.labels found.now) }
 {
-    match find_nsec(apex, chain, wildcard) {
+    match found {
         NsecFound::Match(listed) => {
             let at_cut = is_at_cut(apex, listed);
             wildcard_types_answer(listed.data().types(), at_cut, count, rtype)
@@ -68,26 +70,47 @@ pub fn judge_wildcard<A: ToName, O: Octets, N: ToName>(
     }
 }
 
-/// Returns what records of an NSEC chain answer to a question about a name and a type, without a
-/// wildcard. If the name does not exist, call `judge_wildcard` for the wildcard below its closest
-/// encloser (RFC 4035, section 3.1.3.4).
-pub fn judge_name<A: ToName, O: Octets, N: ToName, M: ToName>(
+/// Returns what records of an NSEC chain answer to a question about a type and a name that is known
+/// not to exist, whose closest encloser has `count` labels. Pass the wildcard right below the
+/// closest encloser as `wildcard` (RFC 4035, section 3.1.3.4): the answer is what the records say
+/// of it, or `NoCloserName` if they say nothing.
+pub fn judge_wildcard<A: ToName, O: Octets, N: ToName>(
     apex: &A,
     chain: &[Record<N, Nsec<O, N>>],
+    count: usize,
+    wildcard: &ParsedName<'_>,
+    rtype: Rtype,
+) -> Answer
+    ensures { result ≡ wildcard_answer (A.labels apex.now) (links_of N.labels chain.now) count
+        wildcard.now rtype }
+{
+    wildcard_told(
+        apex,
+        &find_nsec(apex, chain, wildcard),
+        count,
+        wildcard,
+        rtype,
+    )
+}
+
+/// Returns what records say of a name at or below the apex, given what was found for it.
+fn name_told<A: ToName, O: Octets, N: ToName, M: ToName>(
+    apex: &A,
+    found: &NsecFound<'_, O, N>,
     name: &M,
     rtype: Rtype,
 ) -> NameAnswer
-    ensures { IsNameAnswer (reading (A.labels apex.now) (links_of N.labels chain.now)
-        (M.labels name.now) rtype) (A.labels apex.now) (links_of N.labels chain.now)
-        (M.labels name.now) rtype result }
+    requires low { is_at_or_below (M.labels name.now) (A.labels apex.now) ≡ true }
+    requires shared { IsCovered N.labels (M.labels name.now) found.now }
+    ensures { (listed : List Link) → IsFound (A.labels apex.now) listed (M.labels name.now)
+        (found_match N.labels found.now) (found_cover N.labels found.now)
+        → IsNameAnswer (reading (A.labels apex.now) listed (M.labels name.now) rtype)
+        (A.labels apex.now) listed (M.labels name.now) rtype result }
 {
-    if !name.ends_with(apex) {
-        return NameAnswer::Given(Answer::OutsideZone);
-    }
     if is_at_parent(apex, name, rtype) {
         return NameAnswer::Given(Answer::AtParent);
     }
-    let cover = match find_nsec(apex, chain, name) {
+    let cover = match found {
         NsecFound::Match(listed) => {
             let count = listed.owner().count_labels();
             let at_cut = is_at_cut(apex, listed);
@@ -110,6 +133,83 @@ pub fn judge_name<A: ToName, O: Octets, N: ToName, M: ToName>(
         return NameAnswer::Given(Answer::NoData);
     }
     NameAnswer::Absent(cover.shared)
+}
+
+/// Returns what records of an NSEC chain answer to a question about a name and a type, without a
+/// wildcard. If the name does not exist, call `judge_wildcard` for the wildcard below its closest
+/// encloser (RFC 4035, section 3.1.3.4).
+pub fn judge_name<A: ToName, O: Octets, N: ToName, M: ToName>(
+    apex: &A,
+    chain: &[Record<N, Nsec<O, N>>],
+    name: &M,
+    rtype: Rtype,
+) -> NameAnswer
+    ensures { IsNameAnswer (reading (A.labels apex.now) (links_of N.labels chain.now)
+        (M.labels name.now) rtype) (A.labels apex.now) (links_of N.labels chain.now)
+        (M.labels name.now) rtype result }
+{
+    if !name.ends_with(apex) {
+        return NameAnswer::Given(Answer::OutsideZone);
+    }
+    name_told(apex, &find_nsec(apex, chain, name), name, rtype)
+}
+
+/// An answer of NSEC records, with what was found for the names that were looked up.
+#[derive(Drop)]
+pub struct NsecJudgement<'a, O: Octets, N: ToName> {
+    /// The answer.
+    pub answer: Answer,
+    /// What was found for the name, unless it is outside the zone.
+    pub of_name: NsecFound<'a, O, N>,
+    /// What was found for the wildcard below the closest encloser, if the name does not exist.
+    pub of_wildcard: Option<NsecFound<'a, O, N>>,
+}
+
+/// Returns what records of an NSEC chain answer to a question about a name and a type, as
+/// `judge_nsec` does, and the records that the answer rests on. If the parent zone answers
+/// (`AtParent`), the record of the apex is found too, with which a server of this zone answers (RFC
+/// 4035, section 3.1.4.1). Does not allocate, and reads the records at most twice.
+pub fn judge_nsec_with_witnesses<'a, A: ToName, O: Octets, N: ToName, M: ToName>(
+    apex: &A,
+    chain: &'a [Record<N, Nsec<O, N>>],
+    name: &M,
+    rtype: Rtype,
+) -> NsecJudgement<'a, O, N>
+    ensures judged { IsJudged (links_of N.labels chain.now) (A.labels apex.now) (M.labels name.now)
+        rtype result.answer }
+    ensures witnesses { AreNsecWitnesses (links_of N.labels chain.now) (A.labels apex.now)
+        (M.labels name.now) result.answer (finding_of N.labels result.of_name)
+        (option_map (finding_of N.labels) result.of_wildcard) }
+{
+    if !name.ends_with(apex) {
+        return NsecJudgement {
+            answer: Answer::OutsideZone,
+            of_name: NsecFound::NoMatch(None),
+            of_wildcard: None,
+        };
+    }
+    // By this law what the records say is what they prove, for a type of 16 bits.
+    chains_are_known();
+    let _number = rtype.to_int();
+    let of_name = find_nsec(apex, chain, name);
+    let count = match name_told(apex, &of_name, name, rtype) {
+        NameAnswer::Given(answer) => {
+            return NsecJudgement {
+                answer,
+                of_name,
+                of_wildcard: None,
+            };
+        }
+        NameAnswer::Absent(count) => count,
+    };
+    let mut buffer = [0; MAX_NAME];
+    let wildcard = wildcard_below(&mut buffer, name, count);
+    let found = find_nsec(apex, chain, &wildcard);
+    NsecJudgement {
+        answer: wildcard_told(apex, &found, count, &wildcard, rtype),
+        of_name,
+        of_wildcard: Some(found),
+    }
 }
 
 /// Returns what records of an NSEC chain answer to a question about a name and a type (RFC 4035,
@@ -137,15 +237,5 @@ pub fn judge_nsec<A: ToName, O: Octets, N: ToName, M: ToName>(
     ensures { IsJudged (links_of N.labels chain.now) (A.labels apex.now) (M.labels name.now) rtype
         result }
 {
-    // By this law what the records say is what they prove, for a type of 16 bits.
-    chains_are_known();
-    let _number = rtype.to_int();
-    match judge_name(apex, chain, name, rtype) {
-        NameAnswer::Given(answer) => answer,
-        NameAnswer::Absent(count) => {
-            let mut buffer = [0; MAX_NAME];
-            let wildcard = wildcard_below(&mut buffer, name, count);
-            judge_wildcard(apex, chain, count, &wildcard, rtype)
-        }
-    }
+    judge_nsec_with_witnesses(apex, chain, name, rtype).answer
 }

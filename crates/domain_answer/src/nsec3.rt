@@ -70,12 +70,12 @@ pub(crate) fn opt_out_of<O: Octets, N: ToName>(cover: Option<&Nsec3Rr<O, N>>) ->
 /// encloser.
 pub(crate) fn found_answer<A: ToName, O: Octets, N: ToName>(
     apex: &A,
-    found: Option<Nsec3Encloser<'_, O, N>>,
+    found: &Option<Nsec3Encloser<'_, O, N>>,
     labels: usize,
     rtype: Rtype,
 ) -> Answer
     ensures { result ≡ found_answer (A.labels apex.now)
-        (option_map (encloser_of N.labels) found.entry) labels rtype }
+        (option_map (encloser_of N.labels) found.now) labels rtype }
 {
     let Some(encloser) = found else {
         return Answer::NotProven;
@@ -91,10 +91,10 @@ pub(crate) fn found_answer<A: ToName, O: Octets, N: ToName>(
 pub(crate) fn wildcard_told<O: Octets, N: ToName>(
     count: usize,
     rtype: Rtype,
-    found: Nsec3Found<'_, O, N>,
+    found: &Nsec3Found<'_, O, N>,
 ) -> Answer
-    ensures { result ≡ wildcard_told count rtype (found_match N.labels found.entry)
-        (found_cover N.labels found.entry) }
+    ensures { result ≡ wildcard_told count rtype (found_match N.labels found.now)
+        (found_cover N.labels found.now) }
 {
     match found {
         Nsec3Found::Match(listed) => {
@@ -134,7 +134,7 @@ fn read_wildcard<A: ToName, O: Octets, N: ToName, M: ToName, H: Nsec3Hasher>(
     let mut buffer = [0; MAX_NAME];
     let wildcard = wildcard_below(&mut buffer, name, count);
     let found = find_nsec3(alloc, apex, records, &wildcard, hasher)?;
-    Ok(wildcard_told(count, rtype, found))
+    Ok(wildcard_told(count, rtype, &found))
 }
 
 /// Returns what records of an NSEC3 chain answer to a question about a name and a type (RFC 5155,
@@ -194,7 +194,7 @@ pub fn judge_nsec3<A: ToName, O: Octets, N: ToName, M: ToName, H: Nsec3Hasher>(
     hashed_chains_are_known();
     let _number = rtype.to_int();
     let found = find_nsec3_encloser(alloc, apex, records, name, hasher)?;
-    match found_answer(apex, found, name.count_labels(), rtype) {
+    match found_answer(apex, &found, name.count_labels(), rtype) {
         Answer::NoCloserName(count) => {
             Ok(read_wildcard(alloc, apex, records, name, rtype, count, hasher)?)
         }

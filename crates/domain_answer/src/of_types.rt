@@ -10,6 +10,10 @@ use domain_octets::Octets;
 /// The number of the type ANY, which asks for records of each type (RFC 1035, section 3.2.3).
 const ANY: u16 = 255;
 
+/// The number of the type NXNAME, which the record of a name lists if the name does not exist (RFC
+/// 9824, section 3).
+const NXNAME: u16 = 128;
+
 /// Returns the type that decides whether a name owns what is asked for: RRSIG for ANY, since each
 /// name that owns records, except a zone cut, owns signatures.
 #[tactic(auto, unfolding(crate::specs::ZoneAnswer::asked_type))]
@@ -47,6 +51,9 @@ pub fn types_answer<O: Octets>(
     }
     if types.contains(Rtype::CNAME) {
         return Answer::Alias;
+    }
+    if types.contains(Rtype::from_int(NXNAME)) {
+        return Answer::NxName;
     }
     Answer::NoData
 }

@@ -8,7 +8,8 @@
 //!   one by one, in less memory.
 //! - `check_nsec` and `check_nsec3` return what records of a chain prove about a name and a type.
 //! - `judge_nsec` and `judge_nsec3` return the whole answer: a name error, no data, a delegation,
-//!   an alias, or what a wildcard does.
+//!   an alias, or what a wildcard does. `judge_nsec_with_witnesses` and
+//!   `judge_nsec3_with_witnesses` also return the records that it rests on.
 //! - `deny_nsec` and `deny_nsec3` pick the records of a chain with which a server answers.
 //! - `compose_nsecs` and `compose_nsec3s` write a chain in wire format, and `published_nsec3param`
 //!   returns the NSEC3PARAM record that a zone publishes.
@@ -28,13 +29,22 @@ mod wire;
 
 pub use config::DenialConfig;
 pub use domain_answer::Answer;
+pub use domain_answer::Needs;
+pub use domain_answer::Nsec3Expansion;
+pub use domain_answer::Nsec3Judgement;
 pub use domain_answer::Nsec3Limits;
+pub use domain_answer::NsecJudgement;
 pub use domain_answer::judge_nsec;
 pub use domain_answer::judge_nsec3;
 pub use domain_answer::judge_nsec3_expansion;
+pub use domain_answer::judge_nsec3_expansion_with_witness;
 pub use domain_answer::judge_nsec3_index;
 pub use domain_answer::judge_nsec3_index_expansion;
+pub use domain_answer::judge_nsec3_with_witnesses;
 pub use domain_answer::judge_nsec3_within;
+pub use domain_answer::judge_nsec_with_witnesses;
+pub use domain_answer::needs_of;
+pub use domain_answer::needs_wildcard_record;
 pub use domain_any_order::ChainError;
 pub use domain_any_order::generate_nsec3s_of_records;
 pub use domain_any_order::generate_nsecs_of_records;

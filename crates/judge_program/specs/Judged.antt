@@ -1,8 +1,12 @@
 -- What the records of a chain that were read answer to a question.
-use Rattle.std.specs.Prelude.{◌≡◌, ◌⊎◌, ℕ, List, [], ◌∷◌, Option, Some, None, Result, Ok, Err}
+use Rattle.std.specs.Prelude.{◌≡◌, ◌⊎◌, ℕ, Bool, not, nat_lt, ◌==◌, ◌||◌, List, [], ◌∷◌, Option, Some, None, Result, Ok, Err}
+use Rattle.domain_octets.specs.Octets.{Octets}
+use Rattle.domain_base.specs.Types as rtypes
 use Rattle.domain_nsec3.specs.{View.HasherAnswer, Chain.{HashedLink, ParamRecord}}
 use Rattle.domain_checker.specs.{HashedIndex.indexed_by, HashedVerdict.{HashedRecords, links_with}}
-use Rattle.judge_program.specs.declared.{nsec3_told.Inquiry.Inquiry, command.Nsec3Options.Nsec3Options}
+use Rattle.std.specs.Option.{option_map}
+use Rattle.judge_program.specs.Told.{shows_records, tellings_of, AreNsec3Told}
+use Rattle.judge_program.specs.declared.{nsec3_told.{Inquiry.Inquiry, Told.Told}, command.Nsec3Options.Nsec3Options, shown.Shown.Shown}
 use Rattle.domain_hasher.specs.declared.error.Nsec3HashError.{Nsec3HashError, TheVariants.Hasher}
 use Rattle.domain_groups.specs.declared.error.SigningError.{SigningError, TheVariants.Nsec3HashingError}
 use Rattle.domain_nsec.specs.Chain.{Link}
@@ -19,6 +23,18 @@ records_of answer asked =
     indexed_by (answer asked.hasher.now) asked.index.now
 
 -- ---- What the records of a chain that were read answer to a question.
+
+-- the second octet of data, which are the flags of an NSEC3 or NSEC3PARAM record
+abbrev pub flags_in : Octets → ℕ
+flags_in (algorithm ∷ flags ∷ octets) = flags
+flags_in _ = 0
+
+-- the record is not an NSEC3 or NSEC3PARAM record with unknown flags: such a record must be ignored
+-- (RFC 5155, sections 4.1.2 and 8.2)
+abbrev pub has_known_flags : RawRecord → Bool
+has_known_flags r =
+    not ((r.«data».rtype == rtypes.nsec3) || (r.«data».rtype == rtypes.nsec3param))
+    || nat_lt (flags_in r.«data».octets) 2
 
 -- the answer is that of the NSEC records
 pub record IsNsecJudged (given : List RawRecord) (q : Question) (answer : Answer) : Type 0 where
@@ -53,6 +69,13 @@ abbrev pub IsJudgeRefused : HasherAnswer → List RawRecord → Question → Nse
     → Type 0
 IsJudgeRefused hashes given q asked =
     IsRefusedBy (λ R. IsRefusalAsked asked.labels R q asked.limit) hashes given q.apex
+
+-- the answer of these records, and what is to be printed below it
+pub record IsTold (labels : Option ℕ) (limit : ℕ) (shown : Shown) (q : Question)
+    (param : ParamRecord) (R : HashedRecords) (told : Told) : Type 0 where
+  pub judged : IsAsked labels R q limit (Ok told.answer)
+  pub parts : AreNsec3Told (shows_records told.answer) shown labels limit param R q.name told.answer
+      (option_map tellings_of told.parts)
 
 -- out of memory, or this error of the hasher
 abbrev pub IsRefusedWith : (ℕ → Type 0) → DenialFault → Type 0

@@ -1,5 +1,5 @@
 -- The output of a run for its arguments and lines, and when each of its faults is reported.
-use Rattle.std.specs.Prelude.{◌≡◌, List, ◌++◌, Option}
+use Rattle.std.specs.Prelude.{◌≡◌, List, ◌++◌, Option, filter}
 use Rattle.domain_octets.specs.Octets.{Octets}
 use Rattle.domain_names.specs.Name.{Tokens}
 use Rattle.domain_nsec3.specs.View.{HasherAnswer}
@@ -8,7 +8,8 @@ use Rattle.domain_answer.specs.declared.answer.Answer.{Answer}
 use Rattle.domain_checker.specs.HashedVerdict.{links_with}
 use Rattle.denial_program.specs.{Run.IsOver, declared.{command.Question.Question, fault.DenialFault.{DenialFault, TheVariants.{Usage, Unprepared}}}}
 use Rattle.denial_program.specs.declared.fault.DenialFault.TheVariants.{OutOfMemory}
-use Rattle.judge_program.specs.{Command.{Asks, IsCommand, IsNoCommand}, Judged.{IsNotNsec3Judged, IsNsec3Judged, IsNsecJudged}, Told.shows_records}
+use Rattle.judge_program.specs.{Command.{Asks, IsCommand, IsNoCommand}, Told.shows_records}
+use Rattle.judge_program.specs.Judged.{has_known_flags, IsNotNsec3Judged, IsNsec3Judged, IsNsecJudged}
 use Rattle.judge_program.specs.{Told.{below_text, nsec_tellings, AreNsec3Told, Tellings}, Text.first_line, declared.command.ChainKind.ChainKind}
 use Rattle.judge_program.specs.declared.{command.{ChainKind.TheVariants.{Nsec, Nsec3}, Nsec3Options.Nsec3Options}, shown.Shown.Shown}
 
@@ -27,19 +28,21 @@ pub record IsNsec3Text (hashes : HasherAnswer) (given : List RawRecord) (q : Que
   pub answer : Answer
   pub judged : IsNsec3Judged hashes given q asked answer
   pub told : Option Tellings
-  pub are : AreNsec3Told (shows_records answer) shown asked.labels judged.param
+  pub are : AreNsec3Told (shows_records answer) shown asked.labels asked.limit judged.param
       (links_with q.apex judged.param.parameters hashes judged.links) q.name answer told
   pub is : text ≡ first_line shown q.name answer ++ below_text shown answer told
 
 -- the same for what records of this kind of chain answer
 abbrev pub IsText : HasherAnswer → ChainKind → List RawRecord → Question → Shown → Octets → Type 0
 IsText hashes Nsec given q shown text = IsNsecText given q shown text
-IsText hashes (Nsec3 asked) given q shown text = IsNsec3Text hashes given q asked shown text
+IsText hashes (Nsec3 asked) given q shown text =
+    IsNsec3Text hashes (filter has_known_flags given) q asked shown text
 
 -- the reason why they have no answer
 abbrev pub HasNoText : HasherAnswer → ChainKind → List RawRecord → Question → DenialFault → Type 0
 HasNoText hashes Nsec given q fault = fault ≡ OutOfMemory
-HasNoText hashes (Nsec3 asked) given q fault = IsNotNsec3Judged hashes given q asked fault
+HasNoText hashes (Nsec3 asked) given q fault =
+    IsNotNsec3Judged hashes (filter has_known_flags given) q asked fault
 
 -- the arguments are a command, the lines give records, and this is the text of their answer; they
 -- have none, for this reason

@@ -36,6 +36,7 @@ answer_text name (answers.Redirected count) = codes "redirected: DNAME at " ++ l
 answer_text name answers.Has = codes "data exists"
 answer_text name answers.NoDs = codes "no DS: unsigned delegation at " ++ full_text name
 answer_text name answers.Alias = codes "alias: CNAME at " ++ full_text name
+answer_text name answers.NxName = codes "no such name: NXNAME at " ++ full_text name
 answer_text name answers.NoData = codes "no data"
 answer_text name (answers.Wildcard count) =
     missing_text (codes "wildcard") name count (codes "answers")

@@ -1,9 +1,9 @@
--- The records that an answer rests on, which of them a response needs, and those with which a
--- server answers.
-use Rattle.std.specs.Prelude.{ℕ, Bool, true, false, Option, Some, None, ◌≡◌, ◌+◌, ◌==◌, not, ◌&&◌, ◌||◌, List, [], ◌++◌, codes, length, nat_lt, bytes_eq}
-use Rattle.std.specs.{Prelude.{Result, Ok, Err, if◌then◌else◌}, Option.{is_some, option_map}, List.find}
+-- The records that an answer rests on, and those with which a server answers.
+use Rattle.std.specs.Prelude.{ℕ, Bool, true, false, Option, Some, None, ◌≡◌, ◌+◌, ◌==◌, not, ◌&&◌, ◌||◌, List, [], ◌++◌, codes, length, nat_lt}
+use Rattle.std.specs.{Prelude.{bytes_eq, ◌<◌, ◌≤◌, Result, Ok, Err, if◌then◌else◌}, Option.{is_some, option_map}, List.find}
 use Rattle.domain_answer.specs.{declared.answer.Answer.Answer, HashedReading.closer_name, ZoneAnswer.wildcard_below}
-use Rattle.judge_program.specs.declared.{needs.Needs.Needs, told.{Listed.{Listed, TheVariants.{Nsec, Nsec3}}, Part.Part, Parts.Parts}, role.Role.Role}
+use Rattle.domain_answer.specs.{Needs.{needs_of, needs_wildcard_record, wildcard_count}, declared.needs.Needs.Needs}
+use Rattle.judge_program.specs.declared.{told.{Listed.{Listed, TheVariants.{Nsec, Nsec3}}, Part.Part, Parts.Parts}, role.Role.Role}
 use Rattle.judge_program.specs.{declared.{role.Role.TheVariants.{Asked, Encloser as ClosestEncloser, NextCloser, Wildcard}, shown.Shown.Shown}, Text.full_text}
 use Rattle.domain_octets.specs.Octets.{Octets}
 use Rattle.domain_names.specs.Name.{Name, same_name, last_labels}
@@ -12,14 +12,14 @@ use Rattle.domain_bitmap.specs.Blocks.{contains_type}
 use Rattle.domain_borrowed.specs.Data.{nsec3_record}
 use Rattle.domain_nsec.specs.Chain.{Link, as_link}
 use Rattle.domain_nsec3.specs.{Chain.{HashedLink, ParamRecord, hash_name}, View.{as_hashed_link, as_param_record}}
-use Rattle.domain_checker.specs.{HashedReading.{Encloser, IsFoundEncloser}, HashedVerdict.{HashedRecords, first_cover, first_match, IsFirstRefusal}}
+use Rattle.domain_checker.specs.{HashedReading.{Encloser, IsFoundEncloser}, HashedVerdict.{HashedRecords, first_cover, first_match}}
 use Rattle.domain_checker.specs.Reading.{is_cover, is_match}
 use Rattle.denial_program.specs.Text.{nsec_line, nsec3_line, nsec3param_line}
 use Rattle.domain_answer.specs.declared.answer.Answer.TheVariants as answers
-use Rattle.judge_program.specs.declared.needs.Needs.TheVariants as needs
+use Rattle.domain_answer.specs.declared.needs.Needs.TheVariants as needs
 use Rattle.judge_program.specs.declared.shown.Shown.TheVariants as shows
 
--- ---- The records that an answer rests on, and which of them a response needs.
+-- ---- The records that an answer rests on.
 
 -- records are shown with the answer: those that it rests on or, if the parent zone answers, that of
 -- the apex, with which a server of this zone answers (RFC 4035, section 3.1.4.1)
@@ -29,41 +29,9 @@ shows_records answers.TooManyIterations = false
 shows_records answers.NotProven = false
 shows_records _ = true
 
--- the number of labels of the closest encloser, if the answer is about a name that no record
--- matches, so that the wildcard below the closest encloser matters
-abbrev pub wildcard_count : Answer → Option ℕ
-wildcard_count (answers.Wildcard n) = Some n
-wildcard_count (answers.WildcardAlias n) = Some n
-wildcard_count (answers.WildcardNoData n) = Some n
-wildcard_count (answers.NameError n) = Some n
-wildcard_count (answers.NoCloserName n) = Some n
-wildcard_count (answers.MayBeUnsigned n) = Some n
-wildcard_count _ = None
-
 -- the answer rests on a cover of the next closer name
 abbrev pub needs_next_closer : Answer → Bool
 needs_next_closer answer = is_some (wildcard_count answer)
-
--- the records of the name that a response needs (RFC 4035, section 3.1.3; RFC 5155, section 7.2)
-abbrev pub needs_of : Answer → Needs
-needs_of (answers.Referral n) = needs.Cut
-needs_of answers.AtParent = needs.Own
-needs_of answers.NoDs = needs.Own
-needs_of answers.NoData = needs.Own
-needs_of (answers.Wildcard n) = needs.Closer
-needs_of (answers.WildcardAlias n) = needs.Closer
-needs_of (answers.WildcardNoData n) = needs.Both
-needs_of (answers.NameError n) = needs.Both
-needs_of (answers.MayBeUnsigned n) = needs.Both
-needs_of (answers.NoCloserName n) = needs.Both
-needs_of _ = needs.Nothing
-
--- whether the response also needs the record of the wildcard
-abbrev pub needs_wildcard : Answer → Bool
-needs_wildcard (answers.WildcardNoData n) = true
-needs_wildcard (answers.NameError n) = true
-needs_wildcard (answers.MayBeUnsigned n) = true
-needs_wildcard _ = false
 
 -- ---- The records that an answer rests on, and those with which a server answers; a is the apex, x
 -- the name.
@@ -143,6 +111,12 @@ abbrev pub told_where : (Role → Name → Option Telling) → Option (Role × N
 told_where told None = None
 told_where told (Some (role, name)) = told role name
 
+-- the match and the cover that were found for the wildcard below the last n labels of x
+abbrev pub told_wildcard : {K : Type 0} → (K → AnyLink) → Name → Option ℕ
+    → Option (Option K × Option K) → Option Telling
+told_wildcard any x (Some n) (Some f) = finding any (Wildcard (last_labels n x)) f.0 f.1
+told_wildcard any x _ _ = None
+
 -- what is said of the name or its closest encloser, of the next closer name, and of the wildcard
 pub record Tellings : Type 0 where
   pub matched : Option Telling
@@ -170,6 +144,13 @@ nsec_tellings a listed x answer =
       param = None;
     })
     else None
+
+-- what was found for the wildcard of an answer or, if it was not looked up, what the records say
+abbrev pub wildcard_or_found : HashedRecords → Name → Answer
+    → Option (Option HashedLink × Option HashedLink) → Option Telling
+wildcard_or_found R x answer None =
+    told_where (nsec3_told R) (wildcard_asked x (wildcard_count answer))
+wildcard_or_found R x answer (Some f) = told_wildcard hashed x (wildcard_count answer) (Some f)
 
 -- the role of the matched name: x itself, or its closest encloser, which has n labels
 abbrev pub encloser_role : Name → ℕ → Role
@@ -208,18 +189,21 @@ expansion_tellings param R x n =
       param = Some param;
     }
 
-abbrev pub AreWhole : ParamRecord → HashedRecords → Name → Answer → Option Tellings → Type 0
-AreWhole param R x answer told =
-    (found : Option Encloser) × IsFoundEncloser R x found
-    × (told ≡ Some (nsec3_tellings param R x answer found))
+-- nothing is looked up in records with more iterations than the limit
+pub record AreWhole (limit : ℕ) (param : ParamRecord) (R : HashedRecords) (x : Name)
+    (answer : Answer) (told : Option Tellings) : Type 0 where
+  pub past : limit < R.parameters.iterations → told ≡ None
+  pub within : R.parameters.iterations ≤ limit
+      → (found : Option Encloser) × IsFoundEncloser R x found
+      × (told ≡ Some (nsec3_tellings param R x answer found))
 
 -- what is to be printed: nothing if the answer rests on no records, or only the answer is printed
-abbrev pub AreNsec3Told : Bool → Shown → Option ℕ → ParamRecord → HashedRecords → Name → Answer
+abbrev pub AreNsec3Told : Bool → Shown → Option ℕ → ℕ → ParamRecord → HashedRecords → Name → Answer
     → Option Tellings → Type 0
-AreNsec3Told false shown labels param R x answer told = told ≡ None
-AreNsec3Told true shows.Answer labels param R x answer told = told ≡ None
-AreNsec3Told true shown None param R x answer told = AreWhole param R x answer told
-AreNsec3Told true shown (Some n) param R x answer told =
+AreNsec3Told false shown labels limit param R x answer told = told ≡ None
+AreNsec3Told true shows.Answer labels limit param R x answer told = told ≡ None
+AreNsec3Told true shown None limit param R x answer told = AreWhole limit param R x answer told
+AreNsec3Told true shown (Some n) limit param R x answer told =
     told ≡ Some (expansion_tellings param R x n)
 
 -- ---- lines
@@ -276,9 +260,4 @@ below_text shows.Why answer (Some t) =
     told_line t.matched ++ told_line t.closer ++ told_line t.wildcard
 below_text shows.Records answer (Some t) =
     records_text t.param (matched_part (needs_of answer) t.matched) (listed_of true t.closer)
-    (listed_of (needs_wildcard answer) t.wildcard)
-
--- the hasher fails for a name on the way to the closest encloser; with labels, it fails for none
-abbrev pub IsRefusalBelow : Option ℕ → HashedRecords → Name → ℕ → Type 0
-IsRefusalBelow None R x reason = IsFirstRefusal R x reason
-IsRefusalBelow (Some n) R x reason = ⊥
+    (listed_of (needs_wildcard_record answer) t.wildcard)

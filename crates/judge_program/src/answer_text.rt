@@ -95,6 +95,7 @@ impl fmt::Display for AnswerText<'_> {
             Answer::Has => f.write_str("data exists"),
             Answer::NoDs => write!(f, "no DS: unsigned delegation at {name}."),
             Answer::Alias => write!(f, "alias: CNAME at {name}."),
+            Answer::NxName => write!(f, "no such name: NXNAME at {name}."),
             Answer::NoData => f.write_str("no data"),
             Answer::Wildcard(n) => self.told("wildcard", n, "answers").fmt(f),
             Answer::WildcardAlias(n) => self

@@ -1,8 +1,8 @@
 //! What the records of a chain that were read answer to a question.
-ghost use Rattle.std.specs.{Prelude.{◌≡◌, ◌++◌, IfErr, OnOk, option_map}, Io.KnownBytes.Appends};
+ghost use Rattle.std.specs.{Prelude.{◌≡◌, ◌++◌, filter, IfErr, OnOk, option_map}, Io.KnownBytes.Appends};
 ghost use Rattle.denial_program.specs.{Fault.IsBeforeOutput, Run.{IsUnwritten, IsWritten}};
 ghost use Rattle.denial_program.specs.declared.fault.DenialFault.TheVariants.{OutOfMemory as Memory};
-ghost use Rattle.judge_program.specs.{Judged.IsNotNsec3Judged, Text.first_line, Told.{below_text, tellings_of}};
+ghost use Rattle.judge_program.specs.{Judged.{has_known_flags, IsNotNsec3Judged}, Text.first_line, Told.{below_text, tellings_of}};
 ghost use Rattle.judge_program.specs.Run.{HasNoText, IsNsecText, IsNsec3Text, IsText};
 
 use crate::command::{ChainKind, Command, Nsec3Options};
@@ -11,7 +11,8 @@ use crate::nsec3_told::Inquiry;
 use crate::shown::{Shown, write_first};
 use crate::told::{Parts, write_below};
 use denial_program::{DenialFault, Question, ZoneName, chain_of, fault_of, records_among};
-use domain_answer::{Answer, judge_nsec};
+use domain_answer::{Answer, judge_nsec_with_witnesses};
+use domain_base::Rtype;
 use domain_borrowed::{BorrowedRecord, ReadNsec};
 use domain_checker::Nsec3Index;
 use domain_hasher::Nsec3Hasher;
@@ -52,12 +53,35 @@ fn judge_nsecs<'a, W: Write>(
     ensures untouched { IfErr result (λ e. IsBeforeOutput e → output.new ≡ output.old) }
 {
     let nsecs: Vec<ReadNsec<'a>> = records_among(alloc, &question.apex, &records)?;
-    let answer = judge_nsec(&question.apex, &nsecs, &question.name, question.rtype);
-    let parts = nsec_parts(question, &nsecs, answer);
+    let judged = judge_nsec_with_witnesses(&question.apex, &nsecs, &question.name, question.rtype);
+    let answer = judged.answer;
+    let parts = nsec_parts(question, judged);
     match write_answer(&question.name, answer, shown, &parts, output) {
         Ok(()) => Ok(()),
         Err(e) => Err(fault_of(&e, DenialFault::Write)),
     }
+}
+
+/// Returns whether the record has no unknown flags, if it is an NSEC3 or NSEC3PARAM record: with
+/// others it must be ignored (RFC 5155, sections 4.1.2 and 8.2).
+fn has_known_flags(listed: &BorrowedRecord<'_>) -> bool
+    ensures { result ≡ has_known_flags listed.now }
+{
+    if listed.rtype() != Rtype::NSEC3 && listed.rtype() != Rtype::NSEC3PARAM {
+        return true;
+    }
+    match listed.data().octets() {
+        [_, flags, ..] => *flags < 2,
+        _ => true,
+    }
+}
+
+/// Returns these records without those that have unknown flags. Does not allocate.
+fn known_of<'a>(mut records: Vec<BorrowedRecord<'a>>) -> Vec<BorrowedRecord<'a>>
+    ensures { result.items ≡ filter has_known_flags records.entry.items }
+{
+    records.retain(|listed| has_known_flags(listed));
+    records
 }
 
 /// Writes what the NSEC3 records among these answer.
@@ -88,9 +112,8 @@ fn judge_nsec3s<'a, W: Write, H: Nsec3Hasher>(
         index: &index,
         hasher,
     };
-    let answer = inquiry.answer(asked)?;
-    let parts = inquiry.parts(asked.labels, shown, answer)?;
-    match write_answer(&question.name, answer, shown, &parts, output) {
+    let told = inquiry.judge(asked, shown)?;
+    match write_answer(&question.name, told.answer, shown, &told.parts, output) {
         Ok(()) => Ok(()),
         Err(e) => Err(fault_of(&e, DenialFault::Write)),
     }
@@ -128,7 +151,7 @@ pub fn write_judged<'a, W: Write, H: Nsec3Hasher>(
     match *kind {
         ChainKind::Nsec => judge_nsecs(alloc, question, *shown, records, output),
         ChainKind::Nsec3(asked) => {
-            judge_nsec3s(alloc, question, asked, *shown, records, hasher, output)
+            judge_nsec3s(alloc, question, asked, *shown, known_of(records), hasher, output)
         }
     }
 }

@@ -1,45 +1,31 @@
 //! What NSEC records say of the names that an answer rests on.
-ghost use Rattle.std.specs.{Prelude.◌≡◌, Option.option_map};
-ghost use Rattle.domain_nsec.specs.Chain.{links_of};
-ghost use Rattle.judge_program.specs.Told.{wildcard_count, nsec_told, nsec_tellings, telling_of, tellings_of};
-ghost use Rattle.judge_program.specs.Told.{told_where, wildcard_asked};
+ghost use Rattle.std.specs.{Prelude.{◌≡◌, List}, Option.option_map};
+ghost use Rattle.domain_nsec.specs.Chain.{Link};
+ghost use Rattle.domain_answer.specs.Judged.{AreNsecWitnesses, IsJudged};
+ghost use Rattle.domain_answer.specs.Reading.{finding_of, found_cover, found_match};
+ghost use Rattle.judge_program.specs.Told.{finding, nsec_tellings, telling_of, tellings_of};
+ghost use Rattle.domain_answer.specs.Needs.{wildcard_count};
+ghost use Rattle.judge_program.specs.Told.{told_wildcard, AnyLink.plain};
 
-use crate::needs::{shows_records, wildcard_count};
+use crate::needs::shows_records;
 use crate::role::Role;
 use crate::told::{Listed, Part, Parts};
 use denial_program::{Question, ZoneName};
-use domain_answer::{Answer, NsecFound, find_nsec, wildcard_of};
-use domain_base::{MAX_NAME, ParsedName, ToName};
-use domain_borrowed::ReadNsec;
+use domain_answer::{Answer, NsecFound, NsecJudgement, wildcard_count};
+use domain_base::{ParsedName, ToName};
 
-/// Returns the wildcard below the closest encloser of a name, if it was looked up for the answer.
-/// Its octets are in the buffer.
-pub fn wildcard_asked<'r, 'b>(
-    buffer: &'b mut [u8; MAX_NAME],
-    name: &'r ZoneName,
-    answer: Answer,
-) -> Option<(Role<'r>, ParsedName<'b>)>
-    ensures { result ≡ wildcard_asked name.now (wildcard_count answer) }
-{
-    let count = wildcard_count(answer)?;
-    if count >= name.count_labels() {
-        return None;
-    }
-    let wildcard = wildcard_of(buffer, name, count)?;
-    Some((Role::Wildcard(name.last_labels(count)), wildcard))
-}
+/// What was found for a name.
+type Found<'r, 'a> = NsecFound<'r, &'a [u8], ParsedName<'a>>;
 
-/// Returns what the records say of a name.
-fn find_told<'r, 'a, N: ToName>(
-    apex: &ZoneName,
-    nsecs: &'r [ReadNsec<'a>],
-    role: Role<'r>,
-    name: &N,
-) -> Option<Part<'r, 'a>>
-    ensures { option_map telling_of result
-        ≡ nsec_told apex.now (links_of (λ n. n) nsecs.now) role.entry (N.labels name.now) }
+/// An answer, with what was found for the names that were looked up.
+pub type Judged<'r, 'a> = NsecJudgement<'r, &'a [u8], ParsedName<'a>>;
+
+/// Returns the record that was found for a name.
+fn part_of<'r, 'a>(role: Role<'r>, found: Found<'r, 'a>) -> Option<Part<'r, 'a>>
+    ensures { option_map telling_of result ≡ finding plain role.entry
+        (found_match (λ n. n) found.entry) (found_cover (λ n. n) found.entry) }
 {
-    match find_nsec(apex, nsecs, name) {
+    match found {
         NsecFound::Match(nsec) => Some(Part {
             role,
             matches: true,
@@ -54,37 +40,36 @@ fn find_told<'r, 'a, N: ToName>(
     }
 }
 
-/// Returns what the records say of the wildcard that was looked up for an answer.
-fn find_wildcard<'r, 'a>(
-    question: &'r Question,
-    nsecs: &'r [ReadNsec<'a>],
+/// Returns the record that was found for the wildcard below the closest encloser of a name.
+fn wildcard_part<'r, 'a>(
+    name: &'r ZoneName,
     answer: Answer,
+    found: Option<Found<'r, 'a>>,
 ) -> Option<Part<'r, 'a>>
-    ensures { option_map telling_of result ≡ told_where
-        (nsec_told question.now.apex (links_of (λ n. n) nsecs.now))
-        (wildcard_asked question.now.name (wildcard_count answer)) }
+    ensures { option_map telling_of result ≡ told_wildcard plain name.now (wildcard_count answer)
+        (option_map (finding_of (λ n. n)) found.entry) }
 {
-    let mut buffer = [0; MAX_NAME];
-    let (role, wildcard) = wildcard_asked(&mut buffer, &question.name, answer)?;
-    find_told(&question.apex, nsecs, role, &wildcard)
+    let count = wildcard_count(answer)?;
+    part_of(Role::Wildcard(name.last_labels(count)), found?)
 }
 
 /// Returns what the records say of the names that an answer rests on, if it rests on records.
-pub fn nsec_parts<'r, 'a>(
-    question: &'r Question,
-    nsecs: &'r [ReadNsec<'a>],
-    answer: Answer,
-) -> Option<Parts<'r, 'a>>
-    ensures { option_map tellings_of result ≡ nsec_tellings question.now.apex
-        (links_of (λ n. n) nsecs.now) question.now.name answer }
+pub fn nsec_parts<'r, 'a>(question: &'r Question, judged: Judged<'r, 'a>) -> Option<Parts<'r, 'a>>
+    ensures { (listed : List Link) → IsJudged listed question.now.apex question.now.name
+        question.now.rtype judged.entry.answer
+        → AreNsecWitnesses listed question.now.apex question.now.name judged.entry.answer
+        (finding_of (λ n. n) judged.entry.of_name)
+        (option_map (finding_of (λ n. n)) judged.entry.of_wildcard)
+        → option_map tellings_of result
+        ≡ nsec_tellings question.now.apex listed question.now.name judged.entry.answer }
 {
-    if !shows_records(answer) {
+    if !shows_records(judged.answer) {
         return None;
     }
     Some(Parts {
-        matched: find_told(&question.apex, nsecs, Role::Asked, &question.name),
+        matched: part_of(Role::Asked, judged.of_name),
         closer: None,
-        wildcard: find_wildcard(question, nsecs, answer),
+        wildcard: wildcard_part(&question.name, judged.answer, judged.of_wildcard),
         param: None,
     })
 }

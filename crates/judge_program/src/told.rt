@@ -4,10 +4,9 @@ ghost use Rattle.std.specs.Io.KnownBytes.{Appends};
 ghost use Rattle.domain_nsec3.specs.View.{as_param_record};
 ghost use Rattle.judge_program.specs.Told.{any_of, below_text, is_needed, is_told, line_of, line_once, listed_of, matched_part, param_line, records_text, telling_of, tellings_of, told_line};
 
-use crate::needs::{Needs, needs_of, needs_wildcard};
 use crate::role::Role;
 use crate::shown::Shown;
-use domain_answer::Answer;
+use domain_answer::{Answer, Needs, needs_of, needs_wildcard_record};
 use domain_base::Rtype;
 use domain_borrowed::{ReadNsec, ReadNsec3, ReadNsec3param};
 use std::io::Write;
@@ -201,7 +200,7 @@ pub fn write_below<W: Write>(
         Shown::Records => {
             let matched = matched_part(needs_of(answer), &parts.matched);
             let closer = listed_of(true, &parts.closer);
-            let wildcard = listed_of(needs_wildcard(answer), &parts.wildcard);
+            let wildcard = listed_of(needs_wildcard_record(answer), &parts.wildcard);
             write_records(matched, closer, wildcard, parts.param, output)
         }
     }

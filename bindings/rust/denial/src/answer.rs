@@ -29,6 +29,8 @@ pub enum Judgement {
     NoDs,
     /// The name owns a CNAME record, which answers instead of the type.
     Alias,
+    /// The signer says that the name does not exist: its record lists NXNAME (RFC 9824).
+    NxName,
     /// The name exists and owns no records of the type.
     NoData,
     /// The name does not exist, and the wildcard below its closest encloser answers.
@@ -115,6 +117,7 @@ impl Judgement {
             45 => Self::MayBeUnsigned { labels },
             46 => Self::NoCloserName { labels },
             47 => Self::TooManyIterations,
+            50 => Self::NxName,
             _ => return None,
         })
     }
@@ -139,6 +142,7 @@ impl Judgement {
             Self::MayBeUnsigned { .. } => 45,
             Self::NoCloserName { .. } => 46,
             Self::TooManyIterations => 47,
+            Self::NxName => 50,
         }
     }
 

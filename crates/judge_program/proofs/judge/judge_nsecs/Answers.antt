@@ -7,17 +7,19 @@ use Rattle.judge_program.proofs.judge.judge_nsecs.Goals as goal
 
 -- the text that is to be written is that of what the records answer
 told : (g : Over) (c : After-write_answer g) → IsNsecText c.args.records.items c.args.question.now c.args.shown
-    (first_line c.args.shown c.args.question.now.name c.judge_nsec-answer.result
-    ++ below_text c.args.shown c.judge_nsec-answer.result (option_map tellings_of c.nsec_parts-parts.result))
+    (first_line c.args.shown c.args.question.now.name c.judge_nsec_with_witnesses-judged.result.answer
+    ++ below_text c.args.shown c.judge_nsec_with_witnesses-judged.result.answer (option_map tellings_of c.nsec_parts-parts.result))
 told g c = record {
-  answer = c.judge_nsec-answer.result;
+  answer = c.judge_nsec_with_witnesses-judged.result.answer;
   judged = record {
     links = links_of (λ n. n) c.in_ok-nsecs.nsecs.items;
     are = rw c.deref.ensures.value at c.in_ok-nsecs.ensures;
-    is = rw c.deref-2.ensures.value at c.judge_nsec-answer.ensures;
+    is = rw c.deref-2.ensures.value at c.judge_nsec_with_witnesses-judged.ensures.judged;
   };
-  is = ap (λ t. first_line c.args.shown c.args.question.now.name c.judge_nsec-answer.result ++ below_text c.args.shown c.judge_nsec-answer.result t)
-      (rw c.deref-3.ensures.value at c.nsec_parts-parts.ensures);
+  is = ap (λ t. first_line c.args.shown c.args.question.now.name c.judge_nsec_with_witnesses-judged.result.answer
+      ++ below_text c.args.shown c.judge_nsec_with_witnesses-judged.result.answer t)
+      (c.nsec_parts-parts.ensures _ (rw c.deref-2.ensures.value at c.judge_nsec_with_witnesses-judged.ensures.judged)
+      (rw c.deref-2.ensures.value at c.judge_nsec_with_witnesses-judged.ensures.witnesses));
 }
 
 pub returns-in-Ok-clause-ok : goal.returns-in-Ok-clause-ok

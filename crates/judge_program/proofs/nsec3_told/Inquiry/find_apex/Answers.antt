@@ -1,6 +1,6 @@
 use Rattle.std.proofs.{Common.{ap, Err}, lemmas.Result.err_from_is_err_and}
 use Rattle.judge_program.proofs.RunLemmas.{refused_with}
-use Rattle.judge_program.proofs.nsec3_told.Inquiry.find_whole.Goals as goal
+use Rattle.judge_program.proofs.nsec3_told.Inquiry.find_apex.Goals as goal
 
 pub returns-in_err-found-clause-err : goal.returns-in_err-found-clause-err
 returns-in_err-found-clause-err g c =

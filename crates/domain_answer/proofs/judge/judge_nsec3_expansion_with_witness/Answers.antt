@@ -1,0 +1,8 @@
+use Rattle.std.proofs.{Common.{arith, sym, ◌∙◌}, lemmas.Grind.common_steps}
+use Rattle.domain_answer.proofs.HashedAnswerLemmas.{expansion_judged}
+use Rattle.domain_answer.proofs.judge.judge_nsec3_expansion_with_witness.Goals as goal
+
+pub returns-clause-judged : goal.returns-clause-judged
+returns-clause-judged g c =
+    expansion_judged c.hashed_chains_are_known.ensures _ _ c.args.limit _ (grind (arith, common_steps)) c.args.labels
+    (rw c.apex-apex.ensures at (sym c.is_expanded.ensures ∙ c.if-not-is_expanded.false)) (grind (arith, common_steps))
