@@ -1,5 +1,5 @@
 //! Records in a message.
-ghost use Rattle.std.specs.Prelude.{◌≡◌, ◌≤◌, ◌<◌, ◌+◌, ◌++◌, ℕ, Option, Some, length, IfOk, IfErr, IsTrue};
+ghost use Rattle.std.specs.Prelude.{◌≡◌, ◌≤◌, ◌<◌, ◌+◌, ◌++◌, ◌↔◌, ℕ, Option, Some, length, IfOk, IfErr, IsTrue};
 ghost use Rattle.domain_octets.specs.Octets.{Octets};
 ghost use Rattle.domain_names.specs.Text.{scan_fault_of};
 ghost use Rattle.domain_rdata.specs.{Zone.Kind, Scan.OctetsFault};
@@ -30,7 +30,7 @@ fn copied<O: FromBuilder>(alloc: Global, octets: &[u8]) -> Result<O, MessageErro
 /// Returns whether octets are those of the message from place `at` up to place `end`.
 fn are_octets_at(message: &[u8], at: usize, end: usize, octets: &[u8]) -> bool
     requires { at ≤ length message.now }
-    ensures { IsTrue result → OctetsAt message.now at (length octets.now) octets.now end }
+    ensures { IsTrue result ↔ OctetsAt message.now at (length octets.now) octets.now end }
 {
     end == at + octets.len() && message[at..].starts_with(octets)
 }

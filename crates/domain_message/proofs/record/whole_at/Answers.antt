@@ -30,7 +30,7 @@ returns-then-are_octets_at-clause-ok g c =
     let ok = c.in_ok-end.ensures.ok in
     let front_is : c.as_slice-front.result.now ≡ ok.0 = c.as_slice-front.ensures ∙ ok.2 ∙ ap (λ o. o ++ ok.0) c.new-expanded.ensures in
     let found = subst (λ o. OctetsAt c.args.message.now c.args.place (length o) o c.in_ok-end.end) front_is
-    (c.are_octets_at.ensures c.if-are_octets_at.true) in
+    (c.are_octets_at.ensures.0 c.if-are_octets_at.true) in
     let placed = placed_in_full g.O.Builder.OctetsBuilder.limit _ c.args.rtype _ _ c.requires.inside c.args.parts.now ok.0 c.in_ok-end.end
     c.requires.some ok.1 (c.may_end.ensures.value.0 c.if-not-may_end.false) found (c.may_end.ensures.before c.if-not-may_end.false) in
     copy_placed g.O.Builder.OctetsBuilder.limit _ c.args.rtype c.args.place c.args.count c.requires.inside g.O.Octets.octets _ _ placed
@@ -41,7 +41,7 @@ returns-then-are_octets_at-clause-err g c =
     let ok = c.in_ok-end.ensures.ok in
     let front_is : c.as_slice-front.result.now ≡ ok.0 = c.as_slice-front.ensures ∙ ok.2 ∙ ap (λ o. o ++ ok.0) c.new-expanded.ensures in
     let found = subst (λ o. OctetsAt c.args.message.now c.args.place (length o) o c.in_ok-end.end) front_is
-    (c.are_octets_at.ensures c.if-are_octets_at.true) in
+    (c.are_octets_at.ensures.0 c.if-are_octets_at.true) in
     let placed = placed_in_full g.O.Builder.OctetsBuilder.limit _ c.args.rtype _ _ c.requires.inside c.args.parts.now ok.0 c.in_ok-end.end
     c.requires.some ok.1 (c.may_end.ensures.value.0 c.if-not-may_end.false) found (c.may_end.ensures.before c.if-not-may_end.false) in
     copy_refused _ _ _ _ _ c.requires.inside _ _ placed (taken_fits _ _ (omega (arith, c.requires.short))) c.copied-then-are_octets_at.ensures.err
