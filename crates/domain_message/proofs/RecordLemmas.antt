@@ -1,39 +1,80 @@
 -- records in a message: how they are read, and that at a place stands one at most, and none where it is refused
-use Rattle.std.proofs.{lemmas.{Grind.common_steps, List.{length-drop, append-nil, append_assoc, take_at}}, Common.{◌≡◌, ℕ, ◌+◌, ◌-◌, ◌<◌, ◌≤◌, List, [], ◌∷◌}}
-use Rattle.std.{proofs.Common.{◌++◌, length, take, drop, arith, ap, sym, subst, ◌∙◌, refl, inl, inr, Result, IfErr, ◌^◌, length-append}, specs.Prelude.Option}
-use Rattle.std.specs.{Prelude.{Some, None}, Int.{w16, to_be_bytes}}
+use Rattle.std.proofs.lemmas.{Grind.common_steps, List.{append-nil, append_assoc, length-drop, length-take, take_at, take-take, take-append-drop}}
+use Rattle.std.proofs.{lemmas.List.{drop-take, drop-drop}, Common.{◌≡◌, ℕ, ◌+◌, ◌-◌, ◌<◌, ◌≤◌, ◌^◌, List, [], ◌∷◌, ◌++◌, length, take, drop, length-append}}
+use Rattle.std.proofs.Common.{arith, ap, sym, subst, ◌∙◌, refl, inl, inr, Result, Ok, Err, IfOk, IfErr}
+use Rattle.std.specs.{Prelude.{Option, Some, None, Bool, true, false, slice_index}, Int.{w16, to_be_bytes}}
 use Rattle.domain_octets.specs.Octets.{Octets}
 use Rattle.domain_names.specs.{Wire.Fault, Name.{Name, wire_of, IsName}}
-use Rattle.domain_fields.{specs.Layout.{Values, Begins, FirstFault, in_field, in_first, in_later, octets_of}, proofs.ExactLemmas.one_reading}
+use Rattle.domain_fields.{specs.Layout.{Values, Begins, FirstFault, in_field, in_first, in_later, octets_of, one, long, ◌▸◌}, proofs.ExactLemmas.one_reading}
 use Rattle.domain_record.specs.declared.record.Record.{Record}
-use Rattle.domain_rdata.{specs.{Zone.{Kind, rtype_of, wire_octets}, declared.zone_record_data.ZoneRecordData.ZoneRecordData}, proofs.ScanLemmas.{AreOf, are_of}}
-use Rattle.domain_rdata.{proofs.ScanLemmas.are_wire, specs.{Scan.AreData, declared.zone_record_data.ZoneRecordData.TheVariants.{Ns, Soa, Mx, Unknown}}}
-use Rattle.domain_message.specs.{Data.{parts_of, DataAt, PartAt, PartsAt, PartFault, PartsFault, PlacedAt, OctetsAt}, Record.{numbers, AreAlike, HeaderAt}}
-use Rattle.domain_message.specs.Record.{HeaderFault, in_owner, cut_numbers, IsDataAt, IsOfMessage, RecordAt, OctetsRefusal, RefusesData, RefusesRecord}
-use Rattle.domain_message.specs.{Record.{in_header, in_data, in_octets}, declared.{error.MessageError.MessageError, parts.Part.Part, name.NameFault.NameFault}}
+use Rattle.domain_rdata.specs.{Zone.{Kind, kind_of, rtype_of, wire_octets}, declared.zone_record_data.ZoneRecordData.ZoneRecordData}
+use Rattle.domain_rdata.{proofs.ScanLemmas.{AreOf, are_of}, specs.declared.zone_record_data.ZoneRecordData.TheVariants.{Ns, Soa, Mx, Unknown}}
+use Rattle.domain_rdata.{proofs.ScanLemmas.are_wire, specs.Scan.AreData}
+use Rattle.domain_message.specs.Data.{parts_of, has_rest, DataAt, PartAt, PartsAt, PartFault, PartsFault, MayEnd, WholeAt, PlacedAt, OctetsAt, text_count}
+use Rattle.domain_message.specs.Record.{numbers, AreAlike, HeaderAt, HeaderFault, in_owner, cut_numbers, IsDataAt, IsOfMessage, RecordAt, OctetsRefusal}
+use Rattle.domain_message.specs.Record.{RefusesData, RefusesRecord, cut, in_part, other_end, too_long, in_header, in_data, in_octets}
+use Rattle.domain_message.specs.declared.{error.MessageError.MessageError, parts.Part.Part, name.NameFault.NameFault}
 use Rattle.domain_message.{proofs.NameLemmas.{one_name, no_fault, in_full_at, past}, specs.Written.{HasExactWire, record_octets}}
+use Rattle.domain_message.specs.Written.{IsPartInFull, ArePartsInFull, AreInFull}
 use Rattle.domain_message.specs.declared.parts.Part.TheVariants as part
 
 pub on_err : {X E : Type 0} {P Q : E → Type 0} → ((e : E) → P e → Q e) → (r : Result X E) → IfErr r P → IfErr r Q
 on_err f r h = grind (arith, common_steps)
 
+pub taken_fits : (n : ℕ) (xs : List ℕ) → n ≤ 65535 → length (take n xs) ≤ 65535
+taken_fits n xs few = omega (arith, few, length-take n xs)
+
+take_both : (n m : ℕ) (xs : List ℕ) → take (n + m) xs ≡ take n xs ++ take m (drop n xs)
+take_both n m xs =
+    sym (take-append-drop n (take (n + m) xs)) ∙ (λ i. take-take n (n + m) xs (omega arith) i ++ drop-take n m xs i)
+
 module _ (limit : Option ℕ) (message : List ℕ) (rtype place count : ℕ) (inside : place + count ≤ length message) where
-  pub copy_refused : {O : Type 0} (wire : List ℕ) (r : Result O MessageError) → DataAt message rtype place count wire
+  pub copy_refused : {O : Type 0} (wire : List ℕ) (r : Result O MessageError) → DataAt message rtype place count wire → length wire ≤ 65535
       → IfErr r (λ e. (known : Option Kind) → OctetsRefusal limit known wire e) → IfErr r (RefusesData limit message rtype place count)
-  copy_refused wire r placed h = on_err (λ e why. in_octets inside wire placed (why _)) r h
+  copy_refused wire r placed fits h = on_err (λ e why. in_octets inside wire placed fits (why _)) r h
+
+  pub copy_placed : {O : Type 0} (f : O → List ℕ) (wire : List ℕ) (r : Result O MessageError) → DataAt message rtype place count wire
+      → IfOk r (λ o. f o ≡ wire) → IfOk r (λ o. DataAt message rtype place count (f o))
+  copy_placed f wire (Ok o) at same = subst (DataAt message rtype place count) (sym same) at
+  copy_placed f wire (Err e) at same = tt
+
+  placed_as : (ps : Option (List Part)) (wire : List ℕ) → parts_of rtype ≡ ps → PlacedAt message ps (has_rest rtype) place count wire
+      → DataAt message rtype place count wire
+  placed_as ps wire is at = subst (λ q. PlacedAt message q (has_rest rtype) place count wire) (sym is) at
 
   pub placed_plain : parts_of rtype ≡ None → DataAt message rtype place count (take (place + count - place) (drop place message))
-  placed_plain none = grind (arith, common_steps)
+  placed_plain none =
+      let counts : place + count - place ≡ count = omega arith in
+      placed_as None _ none (record { inside = inside; are = ap (λ n. take n (drop place message)) counts; end_is = refl })
 
-  pub placed_parts : (parts : List Part) (octets wire : List ℕ) (end : ℕ) → parts_of rtype ≡ Some parts
-      → PartsAt message parts place octets end
-      → end ≡ place + count → wire ≡ octets → DataAt message rtype place count wire
-  placed_parts parts octets wire end some are end_is same = grind (arith, common_steps)
+  module _ (parts : List Part) (front : List ℕ) (end : ℕ) (some : parts_of rtype ≡ Some parts) (are : PartsAt message parts place front end)
+      (ends : MayEnd (has_rest rtype) end (place + count)) where
+    pub placed_parts : (wire : List ℕ) → wire ≡ front ++ take (place + count - end) (drop end message) → DataAt message rtype place count wire
+    placed_parts wire same =
+        placed_as (Some parts) wire some (record { front = front; end = end; parts_are = are; ends = ends; inside = inside; are = same })
+
+    -- the parts are not compressed: the octets are those of the message
+    pub placed_in_full : OctetsAt message place (length front) front end → end ≤ place + count
+        → DataAt message rtype place count (take (place + count - place) (drop place message))
+    placed_in_full found before =
+        let counts : place + count - place ≡ length front + (place + count - end) = omega (arith, found.end_is, before) in
+        let behind : drop (length front) (drop place message) ≡ drop end message =
+        drop-drop (length front) place message ∙ ap (λ n. drop n message) (sym found.end_is) in
+        placed_parts _ (ap (λ n. take n (drop place message)) counts ∙ take_both (length front) (place + count - end) (drop place message)
+        ∙ (λ i. sym found.are i ++ take (place + count - end) (behind i)))
 
 -- ---- the data stand in one way at most, and in none where they have a fault
 
+one_octets : (message : List ℕ) (at count : ℕ) (a b : List ℕ) (e f : ℕ) → OctetsAt message at count a e → OctetsAt message at count b f
+    → (a ≡ b) × (e ≡ f)
+one_octets message at count a b e f x y = (x.are ∙ sym y.are, x.end_is ∙ sym y.end_is)
+
 one_part : (message : List ℕ) (p : Part) (at : ℕ) (a b : List ℕ) (e f : ℕ) → PartAt message p at a e → PartAt message p at b f → (a ≡ b) × (e ≡ f)
-one_part message p at a b e f x y = grind (arith, common_steps, one_name)
+one_part message (part.Plain count) at a b e f x y = one_octets message at count a b e f x y
+one_part message part.Text at a b e f x y = one_octets message at (text_count message at) a b e f x y
+one_part message part.Name at a b e f x y =
+    let same = one_name message at x.0 y.0 e f x.1 y.1 in
+    (x.2 ∙ ap wire_of same.0 ∙ sym y.2, same.1)
 
 pub one_parts : (message : List ℕ) (ps : List Part) (at : ℕ) (a b : List ℕ) (e f : ℕ) → PartsAt message ps at a e
     → PartsAt message ps at b f
@@ -45,7 +86,9 @@ one_parts message (p ∷ ps) at a b e f x y =
     (x.5 ∙ (λ i. here.0 i ++ more.0 i) ∙ sym y.5, more.1)
 
 no_part : (message : List ℕ) (p : Part) (at : ℕ) (a : List ℕ) (e : ℕ) (fault : NameFault) → PartAt message p at a e → PartFault message p at fault → ⊥
-no_part message p at a e fault x why = grind (arith, common_steps, no_fault)
+no_part message (part.Plain count) at a e fault x why = omega (arith, x.inside, why.0)
+no_part message part.Text at a e fault x why = omega (arith, x.inside, why.0)
+no_part message part.Name at a e fault x why = no_fault message at x.0 e fault x.1 why
 
 pub no_parts : (message : List ℕ) (ps : List Part) (at : ℕ) (a : List ℕ) (e : ℕ) (fault : NameFault) → PartsAt message ps at a e
     → PartsFault message ps at fault → ⊥
@@ -55,9 +98,12 @@ no_parts message (p ∷ ps) at a e fault x (inr why) =
     let here = one_part message p at x.0 why.0 x.2 why.1 x.3 why.2 in
     no_parts message ps x.2 x.1 e fault x.4 (subst (λ q. PartsFault message ps q fault) (sym here.1) why.3)
 
-pub one_placed : (message : List ℕ) (ps : Option (List Part)) (at count : ℕ) (a b : List ℕ) → PlacedAt message ps at count a
-    → PlacedAt message ps at count b → a ≡ b
-one_placed message ps at count a b x y = grind (arith, common_steps, one_parts)
+pub one_placed : (message : List ℕ) (ps : Option (List Part)) (rest : Bool) (at count : ℕ) (a b : List ℕ) → PlacedAt message ps rest at count a
+    → PlacedAt message ps rest at count b → a ≡ b
+one_placed message None rest at count a b x y = x.are ∙ sym y.are
+one_placed message (Some ps) rest at count a b x y =
+    let same = one_parts message ps at x.front y.front x.end y.end x.parts_are y.parts_are in
+    x.are ∙ (λ i. same.0 i ++ take (at + count - same.1 i) (drop (same.1 i) message)) ∙ sym y.are
 
 -- ---- the numbers before the data
 
@@ -67,12 +113,12 @@ begins_count octets v after begins = omega (arith, ap length begins.parts)
 
 pub numbers_cut : (octets : List ℕ) (fault : Fault) → FirstFault numbers octets fault → length octets < 10
 unfolding octets_of
-numbers_cut octets fault (in_first _ _ _ _ (in_field _ _ _ cut)) = omega (arith, cut.short)
-numbers_cut octets fault (in_later _ _ _ _ _ _ a (in_first _ _ _ _ (in_field _ _ _ cut))) = omega (arith, ap length a.parts, cut.short)
-numbers_cut octets fault (in_later _ _ _ _ _ _ a (in_later _ _ _ _ _ _ b (in_first _ _ _ _ (in_field _ _ _ cut)))) =
-    omega (arith, ap length a.parts, ap length b.parts, cut.short)
-numbers_cut octets fault (in_later _ _ _ _ _ _ a (in_later _ _ _ _ _ _ b (in_later _ _ _ _ _ _ c (in_field _ _ _ cut)))) =
-    omega (arith, ap length a.parts, ap length b.parts, ap length c.parts, cut.short)
+numbers_cut octets fault (in_first _ _ _ _ (in_field _ _ _ early)) = omega (arith, early.short)
+numbers_cut octets fault (in_later _ _ _ _ _ _ a (in_first _ _ _ _ (in_field _ _ _ early))) = omega (arith, ap length a.parts, early.short)
+numbers_cut octets fault (in_later _ _ _ _ _ _ a (in_later _ _ _ _ _ _ b (in_first _ _ _ _ (in_field _ _ _ early)))) =
+    omega (arith, ap length a.parts, ap length b.parts, early.short)
+numbers_cut octets fault (in_later _ _ _ _ _ _ a (in_later _ _ _ _ _ _ b (in_later _ _ _ _ _ _ c (in_field _ _ _ early)))) =
+    omega (arith, ap length a.parts, ap length b.parts, ap length c.parts, early.short)
 
 -- one header stands at a place, and none where it has a fault
 pub one_header : (message : List ℕ) (at : ℕ) (owner other : Name) (v w : Values numbers) (place place' : ℕ) → HeaderAt message at owner v place
@@ -86,9 +132,9 @@ one_header message at owner other v w place place' x y =
 pub no_header : (message : List ℕ) (at : ℕ) (owner : Name) (v : Values numbers) (place : ℕ) (fault : NameFault)
     → HeaderAt message at owner v place → HeaderFault message at fault → ⊥
 no_header message at owner v place fault x (in_owner why) = no_fault message at owner x.owner_end fault x.owned why
-no_header message at owner v place fault x (cut_numbers other end owned cut said) =
+no_header message at owner v place fault x (cut_numbers other end owned early said) =
     let names = one_name message at owner other x.owner_end end x.owned owned in
-    omega (arith, names.1, cut, length-drop x.owner_end message, begins_count (drop x.owner_end message) v x.behind x.numbered)
+    omega (arith, names.1, early, length-drop x.owner_end message, begins_count (drop x.owner_end message) v x.behind x.numbered)
 
 -- ---- the record
 
@@ -99,7 +145,7 @@ one_record octets labels message at r s e f x y =
     let values = same.1 in
     let placed = subst (λ p. DataAt message x.rtype p x.count y.holds.wire) (sym same.2)
     (subst (λ (v : Values numbers). DataAt message v.0 y.place v.1.1.1 y.holds.wire) (sym values) y.holds.placed) in
-    let wires = one_placed message (parts_of x.rtype) x.place x.count x.holds.wire y.holds.wire x.holds.placed placed in (
+    let wires = one_placed message (parts_of x.rtype) (has_rest x.rtype) x.place x.count x.holds.wire y.holds.wire x.holds.placed placed in (
       record {
         owners = same.0;
         classes = ap (λ v. v.1.0) values;
@@ -118,7 +164,20 @@ module _ {O N : Type 0} (octets : O → Octets) (labels : N → Name) (limit : O
   no_data : (rtype place count : ℕ) (e : MessageError) (d : ZoneRecordData O N) → RefusesData limit message rtype place count e
       → IsOfMessage e
       → IsDataAt octets labels message rtype place count d → ⊥
-  no_data rtype place count e d h own x = grind (arith, common_steps, no_parts, one_parts, one_placed, no_octets, are_of)
+  no_data rtype place count e d (cut over _) own x = omega (arith, over, x.inside)
+  no_data rtype place count e d (in_part _ parts some fault why _) own x =
+      let whole = subst (λ q. PlacedAt message q (has_rest rtype) place count x.wire) some x.placed in
+      no_parts message parts place whole.front whole.end fault whole.parts_are why
+  no_data rtype place count e d (other_end _ parts some wire end are otherwise _) own x =
+      let whole = subst (λ q. PlacedAt message q (has_rest rtype) place count x.wire) some x.placed in
+      let same = one_parts message parts place whole.front wire whole.end end whole.parts_are are in
+      otherwise (subst (λ n. MayEnd (has_rest rtype) n (place + count)) same.1 whole.ends)
+  no_data rtype place count e d (too_long wire placed over _) own x =
+      let same = one_placed message (parts_of rtype) (has_rest rtype) place count wire x.wire placed x.placed in
+      omega (arith, over, x.fits, ap length same)
+  no_data rtype place count e d (in_octets _ wire placed _ why) own x =
+      let same = one_placed message (parts_of rtype) (has_rest rtype) place count x.wire wire x.placed placed in
+      no_octets limit (kind_of rtype) wire e why own (subst (AreOf (kind_of rtype)) same (are_of octets labels rtype x.wire d x.read))
 
   pub no_record : (at : ℕ) (e : MessageError) (r : Record N (ZoneRecordData O N)) (end : ℕ) → RefusesRecord limit message at e
       → IsOfMessage e
@@ -131,17 +190,15 @@ module _ {O N : Type 0} (octets : O → Octets) (labels : N → Name) (limit : O
 
 -- ---- a record that is written without compression stands where it was written
 
--- octets are those of a part, and of parts one after another
-abbrev IsPart : Part → List ℕ → Type 0
-IsPart (part.Plain count) octets = length octets ≡ count
-IsPart part.Name octets = (name : Name) × IsName name × (octets ≡ wire_of name)
+-- parts without a rest
+in_full : (ps : List Part) (octets : List ℕ) → ArePartsInFull ps octets → AreInFull (Some ps) false octets
+in_full ps octets are = (octets, [], are, refl, sym (append-nil octets))
 
-abbrev AreParts : List Part → List ℕ → Type 0
-AreParts [] octets = octets ≡ []
-AreParts (first ∷ parts) octets = (front back : List ℕ) × IsPart first front × AreParts parts back × (octets ≡ front ++ back)
+one_name_full : (n : Name) → IsName n → ArePartsInFull (part.Name ∷ []) (wire_of n)
+one_name_full n is = (wire_of n, [], (n, is, refl), refl, sym (append-nil _))
 
 start_parts : (m r : Name) (numbers : List ℕ) → IsName m → IsName r → length numbers ≡ 20
-    → AreParts (part.Name ∷ part.Name ∷ part.Plain 20 ∷ []) ((wire_of m ++ wire_of r) ++ numbers)
+    → ArePartsInFull (part.Name ∷ part.Name ∷ part.Plain 20 ∷ []) ((wire_of m ++ wire_of r) ++ numbers)
 start_parts m r numbers m_is r_is twenty = (
   wire_of m,
   wire_of r ++ numbers,
@@ -150,20 +207,32 @@ start_parts m r numbers m_is r_is twenty = (
   append_assoc (wire_of m) (wire_of r) numbers,
 )
 
+may_end : (rest : Bool) (at front back : ℕ) → MayEnd rest 0 back → MayEnd rest (at + front) (at + (front + back))
+may_end false at front back ends = omega (arith, ends)
+may_end true at front back ends = omega arith
+
 module _ (message : List ℕ) where
   -- octets stand where they are
-  octets_stand : (at count : ℕ) (front rest : List ℕ) → at ≤ length message → length front ≡ count → drop at message ≡ front ++ rest
+  pub octets_stand : (at count : ℕ) (front rest : List ℕ) → at ≤ length message → length front ≡ count → drop at message ≡ front ++ rest
       → OctetsAt message at count front (at + length front)
-  octets_stand at count front rest within long is =
-      grind (arith, common_steps, length-drop, take_at, (length-append front rest), (take_at front rest count long))
+  octets_stand at count front rest within counted is =
+      grind (arith, common_steps, length-drop, take_at, (length-append front rest), (take_at front rest count counted))
 
-  part_stands : (p : Part) (at : ℕ) (octets rest : List ℕ) → at ≤ length message → IsPart p octets → drop at message ≡ octets ++ rest
+  text_stands : (at : ℕ) (text rest : List ℕ) → drop at message ≡ (length text ∷ text) ++ rest → length (length text ∷ text) ≡ text_count message at
+  text_stands at text rest is =
+      let count : text_count message at ≡ 1 + length text = ap (λ o. 1 + slice_index o 0) is in
+      omega (arith, count)
+
+  part_stands : (p : Part) (at : ℕ) (octets rest : List ℕ) → at ≤ length message → IsPartInFull p octets → drop at message ≡ octets ++ rest
       → PartAt message p at octets (at + length octets)
-  part_stands (part.Plain count) at octets rest within long is = octets_stand at count octets rest within long is
+  part_stands (part.Plain count) at octets rest within counted is = octets_stand at count octets rest within counted is
+  part_stands part.Text at octets rest within (text, same) is =
+      octets_stand at (text_count message at) octets rest within
+      (ap length same ∙ text_stands at text rest (is ∙ ap (λ o. o ++ rest) same)) is
   part_stands part.Name at octets rest within (name, valid, same) is =
       (name, rw same (in_full_at message at name rest valid (is ∙ ap (λ o. o ++ rest) same)), same)
 
-  parts_stand : (ps : List Part) (at : ℕ) (octets rest : List ℕ) → at ≤ length message → AreParts ps octets → drop at message ≡ octets ++ rest
+  parts_stand : (ps : List Part) (at : ℕ) (octets rest : List ℕ) → at ≤ length message → ArePartsInFull ps octets → drop at message ≡ octets ++ rest
       → PartsAt message ps at octets (at + length octets)
   parts_stand [] at octets rest within none is = (none, omega (arith, ap length none))
   parts_stand (p ∷ ps) at octets rest within (front, back, first, more, joined) is =
@@ -174,19 +243,47 @@ module _ (message : List ℕ) where
       let end : at + length front + length back ≡ at + length octets = omega (arith, ap length joined, length-append front back) in
       (front, back, at + length front, part_stands p at front (back ++ rest) within first split, rw end at later, joined)
 
+module _ (message : List ℕ) (place : ℕ) (within : place ≤ length message) where
+  whole_stands : (ps : List Part) (rest : Bool) (octets after : List ℕ) → AreInFull (Some ps) rest octets → drop place message ≡ octets ++ after
+      → WholeAt message ps rest place (length octets) octets
+  whole_stands ps rest octets after (front, back, are, ends, joined) is =
+      let split : drop place message ≡ front ++ (back ++ after) = is ∙ ap (λ o. o ++ after) joined ∙ append_assoc front back after in
+      let counts : length octets ≡ length front + length back = ap length joined ∙ length-append front back in
+      let left : place + length octets - (place + length front) ≡ length back = omega (arith, counts) in
+      let behind = past message place front (back ++ after) split in
+      record {
+        front = front;
+        end = place + length front;
+        parts_are = parts_stand message ps place front (back ++ after) within are split;
+        ends = subst (λ n. MayEnd rest (place + length front) (place + n)) (sym counts) (may_end rest place (length front) (length back) ends);
+        inside = omega (arith, within, ap length is, length-append octets after, length-drop place message);
+        are = joined ∙ ap (λ o. front ++ o) (sym ((λ i. take (left i) (behind i)) ∙ take_at back after (length back) refl));
+      }
+
+  all_stand : (ps : Option (List Part)) (rest : Bool) (octets after : List ℕ) → AreInFull ps rest octets → drop place message ≡ octets ++ after
+      → PlacedAt message ps rest place (length octets) octets
+  all_stand None rest octets after any is = octets_stand message place (length octets) octets after within refl is
+  all_stand (Some ps) rest octets after full is = whole_stands ps rest octets after full is
+
 module _ {O N : Type 0} (octets : O → Octets) (labels : N → Name) (message : List ℕ) (place : ℕ) (after : List ℕ)
     (within : place ≤ length message) where
-  placed : (d : ZoneRecordData O N) → HasExactWire d → AreData octets labels (rtype_of d) (wire_octets octets labels d) d
+  placed : (d : ZoneRecordData O N) → HasExactWire octets d → AreData octets labels (rtype_of d) (wire_octets octets labels d) d
       → drop place message ≡ wire_octets octets labels d ++ after
       → DataAt message (rtype_of d) place (length (wire_octets octets labels d)) (wire_octets octets labels d)
   unfolding octets_of
   placed (Ns d) exact are is =
-      parts_stand message (part.Name ∷ []) place _ after within (wire_of (labels d.nsdname), [], (_, are.1.fits, refl), refl, sym (append-nil _)) is
+      whole_stands message place within (part.Name ∷ []) false _ after
+      (in_full (part.Name ∷ []) (wire_of (labels d.nsdname)) (one_name_full (labels d.nsdname) are.1.fits)) is
   placed (Soa d) exact are is =
-      parts_stand message (part.Name ∷ part.Name ∷ part.Plain 20 ∷ []) place _ after within (start_parts _ _ _ are.1.fits.0.0 are.1.fits.0.1 refl) is
-  placed (Mx d) exact are is = parts_stand message (part.Plain 2 ∷ part.Name ∷ []) place _ after within
-      (to_be_bytes w16 d.preference, _, refl, (wire_of (labels d.exchange), [], (_, are.1.fits.1, refl), refl, sym (append-nil _)), refl) is
-  placed (Unknown d) exact are is = grind (arith, common_steps)
+      whole_stands message place within (part.Name ∷ part.Name ∷ part.Plain 20 ∷ []) false _ after
+      (in_full (part.Name ∷ part.Name ∷ part.Plain 20 ∷ []) (wire_octets octets labels (Soa d)) (start_parts (labels d.mname)
+      (labels d.rname) (octets_of ((one long ▸ one long ▸ one long) ▸ one long ▸ one long) ((d.serial, (d.refresh, d.retry)), (d.expire, d.minimum)))
+      are.1.fits.0.0 are.1.fits.0.1 refl)) is
+  placed (Mx d) exact are is = whole_stands message place within (part.Plain 2 ∷ part.Name ∷ []) false _ after
+      (in_full (part.Plain 2 ∷ part.Name ∷ []) (to_be_bytes w16 d.preference ++ wire_of (labels d.exchange))
+      (to_be_bytes w16 d.preference, wire_of (labels d.exchange), refl, one_name_full _ are.1.fits.1, refl)) is
+  placed (Unknown d) exact are is =
+      all_stand message place within (parts_of d.rtype) (has_rest d.rtype) (octets d.«data») after exact.1 is
   placed d exact are is = octets_stand message place (length (wire_octets octets labels d)) _ after within refl is
 
 numbers_count : (t c l n : ℕ) → length (octets_of numbers (t, (c, (l, n)))) ≡ 10
@@ -196,7 +293,7 @@ numbers_count t c l n = refl
 module _ {O N : Type 0} (octets : O → Octets) (labels : N → Name) (message after : List ℕ) (at : ℕ) (r : Record N
     (ZoneRecordData O N)) where
   pub record_stands : IsName (labels r.owner) → r.ttl < 2 ^ 32 → r.class < 65536 → rtype_of r.«data» < 65536
-      → length (wire_octets octets labels r.«data») < 65536 → HasExactWire r.«data»
+      → length (wire_octets octets labels r.«data») < 65536 → HasExactWire octets r.«data»
       → AreData octets labels (rtype_of r.«data») (wire_octets octets labels r.«data») r.«data»
       → drop at message ≡ record_octets octets labels r ++ after
       → RecordAt octets labels message at r (at + length (record_octets octets labels r))
@@ -228,6 +325,7 @@ module _ {O N : Type 0} (octets : O → Octets) (labels : N → Name) (message a
           wire = wire;
           inside = omega (arith, within, ap length third, length-append wire after, length-drop (at + length name + 10) message);
           placed = placed octets labels message _ after within _ exact are third;
+          fits = omega (arith, counted);
           read = are;
         };
         end_is = omega (arith, ten, length-append name (fields ++ wire), length-append fields wire);

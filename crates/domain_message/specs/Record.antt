@@ -8,7 +8,8 @@ use Rattle.domain_fields.specs.Layout.{short, long, Layout, one, ◌▸◌, Valu
 use Rattle.domain_record.specs.declared.record.Record.{Record}
 use Rattle.domain_rdata.specs.{Zone.{Kind, kind_of, rtype_of, wire_octets}, Scan.{AreOfKind, IsPart, AreData}}
 use Rattle.domain_rdata.specs.declared.zone_record_data.ZoneRecordData.{ZoneRecordData}
-use Rattle.domain_message.specs.{Data.{parts_of, PartsAt, PartsFault, DataAt}, Name.{NameAt, LabelsFault}, declared.{parts.Part.Part, name.NameFault.NameFault}}
+use Rattle.domain_message.specs.{Data.{parts_of, has_rest, PartsAt, PartsFault, MayEnd, DataAt}, Name.{NameAt, LabelsFault}}
+use Rattle.domain_message.specs.declared.{parts.Part.Part, name.NameFault.NameFault}
 use Rattle.domain_message.specs.declared.error.MessageError.{MessageError, TheVariants.{ShortInput, BadLabelType, ForwardPointer, LongName, DataLength}}
 use Rattle.domain_message.specs.declared.error.MessageError.TheVariants.{IllegalData, ShortBuf, OutOfMemory}
 use Rattle.domain_message.specs.declared.name.NameFault.TheVariants as name_fault
@@ -54,12 +55,13 @@ pub data HeaderFault (message : Octets) (at : ℕ) (fault : NameFault) : Type 0 
       → length message < owner_end + 10 → fault ≡ name_fault.ShortInput
       → HeaderFault message at fault
 
--- the `count` octets at a place are these data
+-- the `count` octets at a place are these data, which have at most 65,535 octets without compression
 pub record IsDataAt {O N : Type 0} (octets : O → Octets) (labels : N → Name) (message : Octets)
     (rtype place count : ℕ) (d : ZoneRecordData O N) : Type 0 where
   pub wire : Octets
   pub inside : place + count ≤ length message
   pub placed : DataAt message rtype place count wire
+  pub fits : length wire ≤ 65535
   pub read : AreData octets labels rtype wire d
 
 -- the message holds this record from place `at` up to place `end`
@@ -86,7 +88,7 @@ OctetsRefusal limit known wire _ = ⊥
 
 -- why no data of a type are read from `count` octets at a place: the message ends within them; a
 -- part of data that may be compressed has a fault; the parts end elsewhere; or their octets without
--- compression are rejected
+-- compression are more than a record can have, or are rejected
 pub data RefusesData (limit : Option ℕ) (message : Octets) (rtype place count : ℕ)
     (error : MessageError) : Type 0 where
   cut : length message < place + count → error ≡ ShortInput
@@ -96,10 +98,13 @@ pub data RefusesData (limit : Option ℕ) (message : Octets) (rtype place count 
       → RefusesData limit message rtype place count error
   other_end : place + count ≤ length message → (parts : List Part) → parts_of rtype ≡ Some parts
       → (octets : Octets) (end : ℕ) → PartsAt message parts place octets end
-      → (end ≡ place + count → ⊥) → error ≡ DataLength
+      → (MayEnd (has_rest rtype) end (place + count) → ⊥) → error ≡ DataLength
       → RefusesData limit message rtype place count error
+  too_long : (wire : Octets) → DataAt message rtype place count wire → 65535 < length wire
+      → error ≡ IllegalData → RefusesData limit message rtype place count error
   in_octets : place + count ≤ length message → (wire : Octets)
-      → DataAt message rtype place count wire → OctetsRefusal limit (kind_of rtype) wire error
+      → DataAt message rtype place count wire → length wire ≤ 65535
+      → OctetsRefusal limit (kind_of rtype) wire error
       → RefusesData limit message rtype place count error
 
 -- why no record is read at a place

@@ -22,7 +22,7 @@ pub enum MessageError {
     LongName,
     /// The fields of the data end elsewhere than their length says.
     DataLength,
-    /// The octets of the data are not data of the type.
+    /// The octets of the data are not data of the type, or exceed 65,535 without compression.
     IllegalData,
     /// The octets of the data, or a part of them, have no room in their builder.
     ShortBuf,

@@ -4,7 +4,7 @@ ghost use Rattle.std.specs.Prelude.{IfSome, Option, ◌≡◌, ◌+◌, ◌++◌
 ghost use Rattle.domain_octets.specs.Octets.{Octets};
 ghost use Rattle.domain_names.specs.Name.{wire_of, IsName, Name};
 ghost use Rattle.domain_record.specs.{Record.record_text, declared.record.Record.Record};
-ghost use Rattle.domain_rdata.specs.{Zone.{HasExactText, data_text, rtype_of, wire_octets}, Scan.AreData};
+ghost use Rattle.domain_rdata.specs.{Zone.{HasExactOctets, HasExactText, data_text, rtype_of, wire_octets}, Scan.AreData};
 ghost use Rattle.domain_rdata.specs.declared.zone_record_data.ZoneRecordData.{ZoneRecordData};
 ghost use Rattle.domain_message.specs.Written.{HasExactWire, record_octets};
 ghost use Rattle.domain_message.specs.Entry.{IsOfLine, LineText, RefusesLine};
@@ -73,9 +73,9 @@ pub fn written_records_are_read_back<O: Octets, N: ToName>(value: &Record<N, Zon
     let _rtype = value.data().rtype().to_int();
 }
 
-/// The octets of data parse back as these data, and nothing is left, if `HasExactWire` holds.
+/// The octets of data parse back as these data, and nothing is left, if `HasExactOctets` holds.
 pub fn written_data_are_read_back<O: Octets, N: ToName>(value: &ZoneRecordData<O, N>)
-    ensures { HasExactWire value.now → AreData O.octets N.labels (rtype_of value.now)
+    ensures { HasExactOctets value.now → AreData O.octets N.labels (rtype_of value.now)
         (wire_octets O.octets N.labels value.now) value.now }
 {
     octets_are_read_back(value);
@@ -88,7 +88,7 @@ pub fn written_data_are_read_back<O: Octets, N: ToName>(value: &ZoneRecordData<O
 pub fn written_records_stand<O: Octets, N: ToName>(value: &Record<N, ZoneRecordData<O, N>>)
     ensures { (message after : Octets) (at : ℕ)
         → length (wire_octets O.octets N.labels value.now.«data») < 65536
-        → HasExactWire value.now.«data»
+        → HasExactWire O.octets value.now.«data»
         → drop at message ≡ record_octets O.octets N.labels value.now ++ after
         → RecordAt O.octets N.labels message at value.now
         (at + length (record_octets O.octets N.labels value.now)) }

@@ -1,19 +1,22 @@
 //! Records in a message.
-ghost use Rattle.std.specs.Prelude.{◌≡◌, ◌≤◌, ◌<◌, ◌+◌, ℕ, Option, length, IfOk, IfErr};
+ghost use Rattle.std.specs.Prelude.{◌≡◌, ◌≤◌, ◌<◌, ◌+◌, ◌++◌, ◌↔◌, ℕ, Option, Some, length, IfOk, IfErr, IsTrue};
 ghost use Rattle.domain_octets.specs.Octets.{Octets};
 ghost use Rattle.domain_names.specs.Text.{scan_fault_of};
 ghost use Rattle.domain_rdata.specs.{Zone.Kind, Scan.OctetsFault};
-ghost use Rattle.domain_message.specs.{Data.DataAt, Record.IsDataAt};
+ghost use Rattle.domain_message.specs.{Data.{parts_of, parts_room, OctetsAt, DataAt}, Record.IsDataAt};
 ghost use Rattle.domain_message.specs.Record.{RecordAt, OctetsRefusal, RefusesData, RefusesRecord};
 
 use crate::MessageError;
 use crate::header::header_at;
-use crate::parts::{expand, parts_of};
+use crate::parts::{Part, expand, may_end, parts_of};
 use domain_base::{MakeName, Rtype, ScanError};
-use domain_octets::{ArrayBuilder, FromBuilder, Octets};
+use domain_octets::{ArrayBuilder, FromBuilder, Octets, OutOfMemory};
 use domain_rdata::ZoneRecordData;
 use domain_record::Record;
 use std::alloc::Global;
+
+/// The greatest number of octets of data.
+const MAX_DATA_LEN: usize = 65_535;
 
 /// Returns a copy of octets.
 fn copied<O: FromBuilder>(alloc: Global, octets: &[u8]) -> Result<O, MessageError>
@@ -22,6 +25,63 @@ fn copied<O: FromBuilder>(alloc: Global, octets: &[u8]) -> Result<O, MessageErro
         → OctetsRefusal O.Builder.limit known octets.now e) }
 {
     Ok(O::from_octets(alloc, octets)?)
+}
+
+/// Returns whether octets are those of the message from place `at` up to place `end`.
+fn are_octets_at(message: &[u8], at: usize, end: usize, octets: &[u8]) -> bool
+    requires { at ≤ length message.now }
+    ensures { IsTrue result ↔ OctetsAt message.now at (length octets.now) octets.now end }
+{
+    end == at + octets.len() && message[at..].starts_with(octets)
+}
+
+/// Returns the octets of both slices, one after the other.
+fn joined(alloc: Global, front: &[u8], rest: &[u8]) -> Result<Vec<u8>, OutOfMemory>
+    ensures { IfOk result (λ v. v.items ≡ front.now ++ rest.now) }
+{
+    let mut whole = Vec::with_capacity(alloc, front.len() + rest.len())?;
+    whole.extend_from_slice(front)?;
+    whole.extend_from_slice(rest)?;
+    Ok(whole)
+}
+
+/// Returns the octets of the parts and of the rest of the data of a type at a place, without
+/// compression. Gathers them in memory of their own only if a part is compressed and a rest
+/// follows.
+fn whole_at<O: FromBuilder>(
+    alloc: Global,
+    message: &[u8],
+    rtype: Rtype,
+    parts: &[Part],
+    place: usize,
+    count: usize,
+) -> Result<O, MessageError>
+    requires inside { place + count ≤ length message.now }
+    requires short { count < 65536 }
+    requires some { parts_of rtype ≡ Some parts.now }
+    requires room { parts_room parts.now ≤ 1027 }
+    ensures ok { IfOk result (λ o. DataAt message.now rtype place count (O.octets o)) }
+    ensures fits { IfOk result (λ o. length (O.octets o) ≤ 65535) }
+    ensures err { IfErr result (RefusesData O.Builder.limit message.now rtype place count) }
+{
+    let mut expanded = ArrayBuilder::new();
+    let end = expand(message, parts, place, &mut expanded)?;
+    let stop = place + count;
+    if !may_end(rtype, end, stop) {
+        return Err(MessageError::DataLength);
+    }
+    let front = expanded.as_slice();
+    let rest = &message[end..stop];
+    if front.len() + rest.len() > MAX_DATA_LEN {
+        return Err(MessageError::IllegalData);
+    }
+    if rest.is_empty() {
+        return copied(alloc, front);
+    }
+    if are_octets_at(message, place, end, front) {
+        return copied(alloc, &message[place..stop]);
+    }
+    copied(alloc, joined(alloc, front, rest)?.as_slice())
 }
 
 /// Returns the octets of the data of a type at a place, without compression.
@@ -38,15 +98,10 @@ fn octets_at<O: FromBuilder>(
     ensures fits { IfOk result (λ o. length (O.octets o) ≤ 65535) }
     ensures err { IfErr result (RefusesData O.Builder.limit message.now rtype place count) }
 {
-    let Some(parts) = parts_of(rtype) else {
-        return copied(alloc, &message[place..place + count]);
-    };
-    let mut octets = ArrayBuilder::new();
-    let end = expand(message, parts, place, &mut octets)?;
-    if end != place + count {
-        return Err(MessageError::DataLength);
+    match parts_of(rtype) {
+        Some(parts) => whole_at(alloc, message, rtype, parts, place, count),
+        None => copied(alloc, &message[place..place + count]),
     }
-    copied(alloc, octets.as_slice())
 }
 
 /// Returns the error of a message for an error of parsing octets as data.
@@ -87,10 +142,10 @@ fn data_at<O: FromBuilder + Drop, N: MakeName + Drop>(
 }
 
 /// Returns the record at a place of a message (RFC 1035, section 4.1.3), in octets of its own, and
-/// the place after it. It follows pointers in the owner, and in names in the data of the types of
-/// RFC 1035: only these may be compressed (RFC 3597, section 4). They are NS, SOA, MX, and, held as
-/// octets, MD, MF, CNAME, MB, MG, MR, PTR and MINFO. It takes the octets of data of other types
-/// unchanged.
+/// the place after it. It follows pointers in the owner, and in names in the data of the types that
+/// RFC 3597, section 4, lists. These are NS, SOA, MX, and, held as octets, MD, MF, CNAME, MB, MG,
+/// MR, PTR, MINFO, RP, AFSDB, RT, SIG, PX, NXT, NAPTR and SRV. It takes the octets of data of other
+/// types unchanged.
 ///
 /// # Errors
 ///
@@ -98,8 +153,10 @@ fn data_at<O: FromBuilder + Drop, N: MakeName + Drop>(
 ///
 /// - Those of `read_name`, for the owner and for names in data that may be compressed.
 /// - `ShortInput` if the message ends within the record.
-/// - `DataLength` if data that may be compressed end elsewhere than their length says.
-/// - `IllegalData` if the octets are not data of the type.
+/// - `DataLength` if data that may be compressed end elsewhere than their length says. Data of SIG
+///   and NXT may continue after the name.
+/// - `IllegalData` if the octets are not data of the type, or are more than 65,535 without
+///   compression.
 /// - `ShortBuf` if the octets of the data, or a part that is held in octets of its own, have no
 ///   room in their builder.
 ///

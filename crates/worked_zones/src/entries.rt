@@ -1,4 +1,4 @@
-//! Entries of a zone file, and names in messages (RFC 1035, sections 4.1.4 and 5.1).
+//! Entries of a zone file, and names and records in messages (RFC 1035, sections 4.1 and 5.1).
 use super::*;
 
 /// Adds the record that tokens spell, or the reason why they spell none.
@@ -28,13 +28,23 @@ fn name(place: &str, octets: &[u8], answers: &mut Answers) -> Answered {
     }
 }
 
-/// Answers a vector on entries, or on names in messages.
+/// Adds the record at a place of a message, and the place after it.
+fn record(place: &str, octets: &[u8], answers: &mut Answers) -> Answered {
+    let place = place.parse::<usize>().unwrap_or(0);
+    match read_record::<Vec<u8>, OwnName>(answers.alloc, octets, place) {
+        Ok((record, end)) => say!(answers, show "record": record, show "end": end),
+        Err(error) => answers.debug("refused", &error),
+    }
+}
+
+/// Answers a vector on entries, or on names or records in messages.
 pub fn answer(form: &str, words: &[&str], answers: &mut Answers) -> Answered {
     let (first, rest) = (word(words, 0), words.get(1..).unwrap_or_default());
     match form {
         "scan" => show(&scan_entry(answers.alloc, &mut Tokens::new(words)), answers),
         "behind" => behind(first, rest, answers),
         "none" => say!(answers, show "no entry": is_no_entry(first.as_bytes())),
+        "record" => record(first, answers.spelled(rest)?.as_slice(), answers),
         _ => name(first, answers.spelled(rest)?.as_slice(), answers),
     }
 }

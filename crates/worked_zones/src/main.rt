@@ -8,7 +8,9 @@ mod zones;
 
 use bytes::Bytes;
 use domain_base::*;
-use domain_message::{LineError, is_no_entry, read_name, scan_behind_owner, scan_entry};
+use domain_message::{
+    LineError, is_no_entry, read_name, read_record, scan_behind_owner, scan_entry,
+};
 use domain_octets::*;
 use domain_plain::{A, Soa};
 use domain_rdata::ZoneRecordData;

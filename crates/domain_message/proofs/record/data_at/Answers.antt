@@ -8,6 +8,6 @@ returns-in-Err-clause-err g c =
     let inside : c.args.place + c.args.count ≤ length c.args.message.now = omega (arith, c.requires.inside) in
     elim c.in-Err.ensures.err [
       | inl long ↦ absurd (omega (arith, long.0, c.in_ok-octets.ensures.fits))
-      | inr why ↦ in_octets inside (g.O.Octets.octets c.in_ok-octets.octets) c.in_ok-octets.ensures.ok
+      | inr why ↦ in_octets inside (g.O.Octets.octets c.in_ok-octets.octets) c.in_ok-octets.ensures.ok c.in_ok-octets.ensures.fits
           (c.refusal.ensures g.O.Builder.OctetsBuilder.limit (kind_of c.args.rtype) (g.O.Octets.octets c.in_ok-octets.octets) why.1)
     ]

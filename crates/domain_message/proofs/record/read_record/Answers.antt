@@ -17,4 +17,4 @@ pub returns-in_err-owner-clause-err : goal.returns-in_err-owner-clause-err
 returns-in_err-owner-clause-err g c =
     let holds = c.in_ok-data.ensures.ok in
     if_err_of (RefusesRecord g.O.Builder.OctetsBuilder.limit c.args.message.now c.args.at) _ _ c.from_residual-in_err-owner.ensures.1
-    (in_data _ _ _ c.in_ok-header.ensures.ok.1 (in_octets holds.inside holds.wire holds.placed tt))
+    (in_data _ _ _ c.in_ok-header.ensures.ok.1 (in_octets holds.inside holds.wire holds.placed holds.fits tt))
