@@ -1,6 +1,6 @@
 -- What is picked of the NSEC3 chain of a zone is found where a search by hash ends, is what its answer rests on, and no more.
 use Rattle.std.proofs.Common.{◌≡◌, ℕ, suc, ◌+◌, ◌-◌, ◌<◌, ◌≤◌, Bool, true, false, ◌||◌, List, [], ◌∷◌, map, length, get_or, slice_get, refl, sym, ap, ◌∙◌}
-use Rattle.std.proofs.Common.{None, Some, arith, inl, inr, ◌⊎◌, ◌≢◌, cond, not, ◌&&◌, Ok, subst}
+use Rattle.std.proofs.Common.{None, Some, arith, inl, inr, ◌⊎◌, ◌≢◌, cond, not, ◌&&◌, Ok, subst, is_some}
 use Rattle.std.proofs.lemmas.Bool.{and_parts, cases_Bool, cases_eq, false≢true, or_left}
 use Rattle.std.proofs.lemmas.{Bool.{or_right, true_from_ne_false}, List.{get_or_past, length-map, Elements.recursion_from_All, Sorted.ranks_by}}
 use Rattle.std.{proofs.lemmas.{Option.{same_Some, get_or_from_slice_get, slice_get_within}, Grind.common_steps}, specs.Option.option_map_or}
@@ -10,21 +10,25 @@ use Rattle.domain_codecs.specs.Base32.{base32_lower}
 use Rattle.domain_octets.specs.Octets.{AreOctets, Octets}
 use Rattle.domain_names.specs.Name.{is_at_or_below, same_name, last_labels, Name}
 use Rattle.domain_base.specs.Types.{dname}
+use Rattle.domain_chain_rdata.specs.Rdata.{is_opt_out}
 use Rattle.domain_zone.proofs.PairLemmas.{in_at, mapped_at, pair_is, stands_in, In, all_in, ascending, first_least, one_of_ring, said, IsOnly}
 use Rattle.domain_zone.{proofs.{NameLemmas.{below_itself, below_longer}, WalkLemmas.{any_in, in_any}}, specs.Covering.{covers, matches, matches_or_covers}}
 use Rattle.domain_zone.specs.{Enclosers.{IsClosestEncloser, exists_over}, Zone.{ZoneRecord, is_zone_cut}}
 use Rattle.domain_nsec3.specs.Chain.{HashedLink, IsOfChain, cycle, ends, ends_of, ChainRecords, HashedName, ChainConfig, Hash, nsec3_lists, original_owners}
 use Rattle.domain_nsec3.{specs.Meaning.{IsRecordOf, octets_before, IsAlone}, proofs.ChainLemmas.{cycle_length, hash_same}}
 use Rattle.domain_checker.proofs.HashedVerdictLemmas.{encloser_is, hash_at, hashes_octets, match_is_of_name, record_at, tied_is, unheard}
-use Rattle.domain_checker.{proofs.MeantLemmas.{hashed_contained_alike, same_count}, specs.{HashedReading.IsUnmatched, HashedVerdict.ChainFacts}}
+use Rattle.domain_checker.{proofs.MeantLemmas.{choose_by, hashed_contained_alike, same_count}, specs.{HashedReading.IsUnmatched, HashedVerdict.ChainFacts}}
 use Rattle.domain_checker.specs.HashedVerdict.{ChainsAreKnown, HashedRecords, chain_records, is_covered, is_hash_match, is_matched, is_ok_with, next_closer}
+use Rattle.domain_checker.specs.HashedVerdict.{is_below_chain_cut}
 use Rattle.domain_checker.specs.HashedVerdict.{owner_hash}
 use Rattle.domain_answer.proofs.{HashedAnswerLemmas.{read_proved, IsOfZone, encloser_told as whole_tells, whole_proves, zone_says}, EncloserLemmas.closest_last}
 use Rattle.domain_answer.{proofs.EncloserLemmas.{exists_low, strictly_other}, specs.HashedReading.{AreAskedAlone, hashed_proved_answer, needs_wildcard}}
+use Rattle.domain_answer.specs.{HashedReading.{hashed_exists, hashed_wildcard_answer, missing_closer}, ZoneAnswer.{expanded_answer, owned_answer}}
 use Rattle.domain_answer.specs.{HashedReading.{tells_encloser, tells_wildcard, IsHashedRead, hashed_encloser, hashed_zone_answer}, ZoneAnswer.is_at_parent}
-use Rattle.domain_answer.specs.{ZoneAnswer.wildcard_below, declared.answer.Answer.{Answer, TheVariants.{NoCloserName, NotProven}}}
+use Rattle.domain_answer.specs.{ZoneAnswer.wildcard_below, declared.answer.Answer.{Answer, TheVariants.{MayBeUnsigned, NoCloserName, NotProven}}}
 use Rattle.domain_denier.proofs.HashedPickLemmas.{IsPickedRead, none_read, AreAmong, all_among, among_contained, contained, in_place, no_match, others_among}
 use Rattle.domain_denier.{proofs.HashedPickLemmas.{picked_among, read_is, without_others}, specs.HashedPicked.{AreHashedNeeded, AreHashedThere, IsHashedDenial}}
+use Rattle.domain_denier.specs.HashedPicked.{ArePickedIfMissing, is_of_missing_name}
 use Rattle.domain_answer.specs.declared.answer.Answer.TheVariants.{AtParent}
 use Rattle.domain_denier.specs.HashedPicked.{IsHashedDenied, IsHashedWhole, TellOfTheirParts, all_records, hashed_picked, picked_without, without_records}
 use Rattle.domain_denier.specs.{HashedPicked.{IsOfHash, tells_hash, IsOfZone as IsOfSomeZone, IsSoleOf}, declared.nsec3.Nsec3Denial.Nsec3Denial}
@@ -157,11 +161,52 @@ some_links L a config links facts none =
     let s = stands_in names n.0 n.1 in
     omega (arith, count, ap length none, slice_get_within names s.place n.0 s.there)
 
--- where no more is said than that there is no such name, so much is proved
-less_by : (tells lacks : Bool) (n m : ℕ) (v : Answer) → ((k : ℕ) → v ≢ NoCloserName k)
-    → NoCloserName n ≡ cond (not tells) NotProven (cond lacks (NoCloserName m) v)
-    → cond (not tells) NotProven (cond lacks (NoCloserName m) v) ≡ NoCloserName m
-less_by tells lacks n m v closer e = grind (arith, common_steps)
+-- where no more is said than that there is no such name, so much is proved: there is no opt-out
+less_by : (tells below here directs out wild : Bool) (n m : ℕ) (v : Answer) → ((k : ℕ) → v ≢ NoCloserName k)
+    → NoCloserName n ≡ cond (not tells) NotProven (cond ((not below && not here && not directs && not out) && not wild) (NoCloserName m) v)
+    → cond (not tells) NotProven (cond ((not below && not here && not directs && not out) && not wild) (NoCloserName m) v)
+    ≡ cond out (MayBeUnsigned m) (NoCloserName m)
+less_by tells below here directs out wild n m v closer e = grind (arith, common_steps)
+
+-- and with opt-out the zone's answer is
+same_by : (tells lacks : Bool) (n m : ℕ) (v u : Answer) → ((k : ℕ) → v ≡ MayBeUnsigned k → v ≡ u)
+    → MayBeUnsigned n ≡ cond (not tells) NotProven (cond lacks (NoCloserName m) v)
+    → cond (not tells) NotProven (cond lacks (NoCloserName m) v) ≡ u
+same_by true true n m v u unsigned e = absurd (cc)
+same_by true false n m v u unsigned e = unsigned n (sym e)
+same_by false lacks n m v u unsigned e = absurd (cc)
+
+-- the zone says so only with opt-out
+owned_signed : (cut : Bool) (owns : ℕ → Bool) (n t m : ℕ) → owned_answer cut owns n t ≡ MayBeUnsigned m → ⊥
+owned_signed cut owns n t m e = grind (arith, common_steps)
+
+expanded_signed : (cut : Bool) (owns : ℕ → Bool) (n t m : ℕ) → expanded_answer cut owns n t ≡ MayBeUnsigned m → ⊥
+expanded_signed cut owns n t m e = grind (arith, common_steps)
+
+wildcard_signed : (L : List ZoneRecord) (a : Name) (config : ChainConfig) (n : ℕ) (w : Name) (t m : ℕ)
+    → hashed_wildcard_answer L a config n w t ≡ MayBeUnsigned m → ⊥
+wildcard_signed L a config n w t m =
+    choose_by (λ v. v ≡ MayBeUnsigned m → ⊥) (not (hashed_exists L a config w)) _ _ (λ _ e. absurd (cc))
+    (λ _. expanded_signed (is_zone_cut L a w) (nsec3_lists L a config w) n t m)
+
+-- with opt-out it says so
+opted : (out : Bool) (n : ℕ) → out ≡ true → MayBeUnsigned n ≡ cond out (MayBeUnsigned n) (NoCloserName n)
+opted out n e = ap (λ b. cond b (MayBeUnsigned n) (NoCloserName n)) (sym e)
+
+module _ (L : List ZoneRecord) (a : Name) (config : ChainConfig) (x : Name) (t : ℕ) where
+  abbrev IsOfOptOut : Answer → Type 0
+  IsOfOptOut v = (n : ℕ) → v ≡ MayBeUnsigned n → v ≡ missing_closer config (length (hashed_encloser L a config x))
+
+  zone_unsigned : IsOfOptOut (hashed_zone_answer L a config x t)
+  zone_unsigned =
+      choose_by IsOfOptOut (not (is_at_or_below x a)) _ _ (λ _ n e. absurd (cc)) (λ _.
+      choose_by IsOfOptOut (is_at_parent a x t) _ _ (λ _ n e. absurd (cc)) (λ _.
+      choose_by IsOfOptOut (is_below_chain_cut L a config x) _ _ (λ _ n e. absurd (cc)) (λ _.
+      choose_by IsOfOptOut (hashed_exists L a config x) _ _
+      (λ _ n e. absurd (owned_signed (is_zone_cut L a x) (nsec3_lists L a config x) (length x) t n e)) (λ _.
+      choose_by IsOfOptOut (nsec3_lists L a config (hashed_encloser L a config x) dname) _ _ (λ _ n e. absurd (cc)) (λ _.
+      choose_by IsOfOptOut (is_opt_out config.flags) _ _ (λ out n e. opted (is_opt_out config.flags) (length (hashed_encloser L a config x)) out)
+      (λ _ n e. absurd (wildcard_signed L a config (length (hashed_encloser L a config x)) (wildcard_below (hashed_encloser L a config x)) t n e)))))))
 
 module _ (L : List ZoneRecord) (config : ChainConfig) (chain : ChainRecords) (x : Name) (t : ℕ) where
   abbrev a : Name
@@ -264,10 +309,15 @@ module _ (L : List ZoneRecord) (config : ChainConfig) (chain : ChainRecords) (x 
         wildcard = λ place e apart.
             let listed = picked_without links place d in
             let r = read.wildcard place e apart in
-            let says = proved_is listed (without_among place) (NoCloserName r.0) r.1 in
-            inside_proved listed
-            ∙ less_by (tells_encloser L a config listed x) (needs_wildcard L a config x && not (tells_wildcard L a config listed x)) r.0 (length en) zone
-            (λ n e. subst IsOfZone e (zone_says L a config x t)) (says ∙ inside_proved listed);
+            let says : r.0 ≡ cond (not (tells_encloser L a config listed x)) NotProven (rest listed) =
+            proved_is listed (without_among place) r.0 r.2 ∙ inside_proved listed in
+            inside_proved listed ∙ elim r.1.1 [
+              | inl closer ↦ less_by (tells_encloser L a config listed x) (is_below_chain_cut L a config x) (hashed_exists L a config x)
+                  (nsec3_lists L a config en dname) (is_opt_out config.flags) (tells_wildcard L a config listed x) r.1.0 (length en) zone
+                  (λ n e. subst IsOfZone e (zone_says L a config x t)) (sym closer ∙ says)
+              | inr out ↦ same_by (tells_encloser L a config listed x) (needs_wildcard L a config x && not (tells_wildcard L a config listed x)) r.1.0
+                  (length en) zone (missing_closer config (length en)) (zone_unsigned L a config x t) (sym out ∙ says)
+            ];
       }
 
       -- ---- each tells of its part
@@ -319,13 +369,14 @@ module _ (L : List ZoneRecord) (config : ChainConfig) (chain : ChainRecords) (x 
 module _ (knows : ChainsAreKnown) (hash : Hash) (chain : ChainRecords) (x : Name) (t : ℕ) (small : t < 65536)
     (low : is_at_or_below x chain.param.owner ≡ true) (parent : is_at_parent chain.param.owner x t ≡ false) where
   pub denied_by : (d : Nsec3Denial) → (IsOfSomeZone hash chain → IsPickedRead (all_records hash chain) x t d) → AreHashedThere chain.links d
-      → IsHashedDenied hash chain x t (Ok d)
-  denied_by d read there = record {
+      → ArePickedIfMissing d → IsHashedDenied hash chain x t (Ok d)
+  denied_by d read there missing = record {
     outside = λ out. absurd (false≢true (sym out ∙ low));
     parent = λ inside at. absurd (false≢true (sym parent ∙ at));
     denial = λ L config whole asked. denial_is L config chain x t hash whole knows small low parent asked d (read (L, config, whole));
     exact = λ needs L config whole. (read (L, config, whole)).picked;
     there = there;
+    missing = missing;
   }
 
   -- of the chain of no zone nothing is picked
@@ -336,6 +387,7 @@ module _ (knows : ChainsAreKnown) (hash : Hash) (chain : ChainRecords) (x : Name
     denial = λ L config whole asked. absurd (never_unmatched L config chain x t hash whole knows small low parent asked (none (L, config, whole)));
     exact = λ needs L config whole. none_read (all_records hash chain) x t (none (L, config, whole));
     there = grind (arith, common_steps);
+    missing = record { next_closer = refl; wildcard = refl };
   }
 
 -- where the parent answers, the record of the apex, as it is picked for another type
@@ -369,4 +421,7 @@ denied_at_parent hash chain x s t own d low at picked answer encloser closer wil
     ]
     | inr e ↦ absurd (let none = wildcard in cc)
   ];
+  missing =
+      let apart : is_of_missing_name d.answer ≡ false = ap is_of_missing_name answer in
+      record { next_closer = ap is_some closer ∙ sym apart; wildcard = ap is_some wildcard ∙ sym apart };
 }

@@ -1,6 +1,7 @@
 -- What is picked of an NSEC3 chain answers as the whole chain does, and less without one of its records.
 use Rattle.std.proofs.Common.{◌≡◌, ℕ, Bool, true, false, List, [], ◌∷◌, ◌++◌, Some, None, Option, slice_get, length, refl, sym, ap, ◌∙◌, subst, inl, inr, ◌<◌}
 use Rattle.std.{proofs.{Common.{arith, not, cond, ◌&&◌, nat_eq, ◌⊎◌}, lemmas.List.Elements.All-from_recursion}, specs.Prelude.{All, Err, Ok, option_to_list}}
+use Rattle.std.proofs.Common.{is_some}
 use Rattle.std.proofs.lemmas.{Bool.{ne_eqb, or_left, or_right, and_from, eqb-false, false_from_ne_true, false≢true}, Grind.common_steps}
 use Rattle.std.{proofs.lemmas.Option.{slice_get_cases, slice_get_within, get_or_from_slice_get, same_Some}, specs.List.{Contains, find, list_any}}
 use Rattle.domain_octets.{proofs.StdLemmas.none_some, specs.Octets.Octets}
@@ -8,15 +9,18 @@ use Rattle.domain_names.specs.Name.{is_at_or_below, is_strictly_below, lowered, 
 use Rattle.domain_base.specs.Types.{dname}
 use Rattle.domain_bitmap.specs.Blocks.{contains_type}
 use Rattle.domain_zone.proofs.{PairLemmas.{in_front, stands_in, any_none, in_at, In, all_from_in}, NameLemmas.{below_itself, below_parent, below_trans}}
-use Rattle.domain_zone.{proofs.{NameLemmas.{same_itself, below_length}, WalkLemmas.in_any}, specs.Zone.ZoneRecord}
+use Rattle.domain_zone.{proofs.{NameLemmas.{same_itself, below_length, same_length}, WalkLemmas.in_any}, specs.Zone.ZoneRecord}
+use Rattle.domain_nsec3.proofs.ChainLemmas.{hash_same}
 use Rattle.domain_nsec3.specs.Chain.{ChainRecords, HashedLink, ChainConfig, Hash, hash_name}
 use Rattle.domain_checker.{proofs.HashedVerdictLemmas.{IsMissed, IsPassed, heard, none_first, none_left, passed_on}, specs.HashedReading.{Encloser, IsEncloser}}
+use Rattle.domain_checker.proofs.MeantLemmas.{same_count}
 use Rattle.domain_checker.specs.{HashedReading.{IsNextHash, IsUnmatched, encloser_is_cut, next_cover}, HashedVerdict.{HashedRecords, IsFirst, chain_records}}
 use Rattle.domain_checker.specs.HashedVerdict.{first_cover, first_match, is_hash_cover, is_hash_match, is_matched, is_ok_with, next_closer, with_links}
-use Rattle.domain_answer.{proofs.{EncloserLemmas.{parent_below, last_above}, HashedAnswerLemmas.{last_low, closer_counts}}, specs.ZoneAnswer.wildcard_below}
+use Rattle.domain_answer.{proofs.{EncloserLemmas.{parent_below, last_above}, HashedAnswerLemmas.last_low}, specs.ZoneAnswer.wildcard_below}
 use Rattle.domain_answer.specs.HashedReading.{wildcard_told, IsHashedRead, IsReadOn, IsWildcardRead, encloser_answer, next_answer, own_answer}
-use Rattle.domain_answer.specs.declared.answer.Answer.{Answer, TheVariants.{Referral, Redirected, NoCloserName, NotProven}}
-use Rattle.domain_denier.specs.HashedPicked.{IsHashedWhole, IsPicked, all_records, hashed_picked, other_place, picked_without, without, IsRefusedAbove}
+use Rattle.domain_answer.specs.declared.answer.Answer.{Answer, TheVariants.{Referral, Redirected, MayBeUnsigned, NoCloserName, NotProven}}
+use Rattle.domain_denier.specs.HashedPicked.{IsHashedWhole, IsPicked, all_records, hashed_picked, other_place, picked_without, without}
+use Rattle.domain_denier.specs.HashedPicked.{ArePickedIfMissing, IsPickRefusal, is_of_missing_name, with_wildcard}
 use Rattle.domain_denier.specs.HashedPicked.{TellsOfName, IsOfHash, tells_hash, wildcard_told_by, IsFoundAt, IsOfZone, IsReached, IsCoverAt, IsFirstAnswer}
 use Rattle.domain_denier.specs.{HashedPicked.{IsPlaced, IsSoleOf, encloser_at, next_role, rests_below}, Picked.{link_at, at_place}}
 use Rattle.domain_denier.specs.declared.{encloser.PlacedEncloser.PlacedEncloser, nsec3.Nsec3Denial.Nsec3Denial}
@@ -148,6 +152,11 @@ module _ (links : List HashedLink) (d : Nsec3Denial) (gone : ℕ) where
 
 -- ---- the names from x up to the apex, by the places of the records that match or cover them
 
+-- where x is the apex there is no other
+apex_alone : (a x y : Name) → same_name x a ≡ true → is_at_or_below x y ≡ true → is_at_or_below y a ≡ true → same_name y a ≡ true
+apex_alone a x y s above within =
+    let short = below_length x y above in let count = same_count x a s in same_length y a within (omega (arith, short, count))
+
 module _ (hash : Hash) (chain : ChainRecords) (x : Name) where
   abbrev R : HashedRecords
   R = all_records hash chain
@@ -156,8 +165,14 @@ module _ (hash : Hash) (chain : ChainRecords) (x : Name) where
   reached_here low = grind (arith, common_steps, below_itself, none_first, same_itself)
 
   module _ (left : Name) (cover : Option ℕ) (reached : IsReached hash chain x left cover) where
-    pub refused_at : (n : ℕ) (wire : Octets) → wire ≡ wire_of (lowered left) → hash wire ≡ Err n → IsRefusedAbove chain.param.owner hash x n
-    refused_at n wire e refused = grind (arith, common_steps)
+    pub refused_at : (n : ℕ) (wire : Octets) → wire ≡ wire_of (lowered left) → hash wire ≡ Err n → IsPickRefusal hash chain x n
+    refused_at n wire e refused =
+        let here : hash_name hash left ≡ Err n = ap hash (sym e) ∙ refused in
+        record {
+          first = λ zone. inl (record { name = left; above = reached.above; within = reached.within; refused = here; first = reached.first zone });
+          above = record { name = left; above = reached.above; within = reached.within; refused = inl here };
+          apex = λ s. sym (hash_same hash left chain.param.owner (apex_alone chain.param.owner x left s reached.above reached.within)) ∙ here;
+        }
 
     module _ (place : ℕ) (found : IsFoundAt hash chain (wire_of (lowered left)) place false) where
       -- of the chain of a zone no record matches it
@@ -216,6 +231,38 @@ closer_by n c h own cut dname u v f = grind (arith, common_steps)
 rests_by : (n c h : Bool) (own cut dname u : Answer) → (not n && not c && not h) ≡ true → cond n own (cond c cut (cond h dname u)) ≡ u
 rests_by n c h own cut dname u e = grind (arith, common_steps)
 
+-- where it rests on the cover, it is one of two
+rested : (a : Name) (e : Encloser) (n t : ℕ) → rests_below a e n ≡ true → (k : HashedLink) → e.cover ≡ Some k
+    → (encloser_answer a e n t ≡ NoCloserName e.count) ⊎ (encloser_answer a e n t ≡ MayBeUnsigned e.count)
+rested a e n t rests k has = grind (arith, common_steps)
+
+-- and else it is not about a name that does not exist
+abbrev IsAtRest : Name → Encloser → ℕ → Type 0
+IsAtRest a e n = (rests_below a e n ≡ false) ⊎ (e.cover ≡ None)
+
+never_missing : (a : Name) (e : Encloser) (n t : ℕ) → IsAtRest a e n → is_of_missing_name (encloser_answer a e n t) ≡ false
+never_missing a e n t (inl rests) = grind (arith, common_steps)
+never_missing a e n t (inr none) = grind (arith, common_steps)
+
+never_closer : (a : Name) (e : Encloser) (n t : ℕ) → IsAtRest a e n → (m : ℕ) → encloser_answer a e n t ≡ NoCloserName m → ⊥
+never_closer a e n t (inl rests) m says = grind (arith, common_steps)
+never_closer a e n t (inr none) m says = grind (arith, common_steps)
+
+none_by : (r : Bool) (o : Option ℕ) → cond r o None ≡ None → (r ≡ false) ⊎ (o ≡ None)
+none_by r o e = grind (arith, common_steps)
+
+at_rest : (a : Name) (links : List HashedLink) (f : PlacedEncloser) (k : HashedLink) (n : ℕ)
+    → next_role a (encloser_at links f k) n f.cover ≡ None → IsAtRest a (encloser_at links f k) n
+at_rest a links f k n e = elim (none_by (rests_below a (encloser_at links f k) n) f.cover e) [ inl r ↦ inl r | inr o ↦ inr (ap (link_at links) o) ]
+
+-- the record of the wildcard tells of such a name
+told_missing : (n t : ℕ) (k : HashedLink) (m : Bool) → is_of_missing_name (wildcard_told_by n t k m) ≡ true
+told_missing n t k true = grind (arith, common_steps)
+told_missing n t k false = grind (arith, common_steps)
+
+rests_other : (n c h : Bool) → (not n && not c && not h) ≡ true → n ≡ false
+rests_other n c h e = grind (arith, common_steps)
+
 role_by : (r : Bool) (o : Option ℕ) (q : ℕ) → cond r o None ≡ Some q → (r ≡ true) × (o ≡ Some q)
 role_by r o q e = grind (arith, common_steps)
 
@@ -239,6 +286,10 @@ pub placed_at : (hash : Hash) (chain : ChainRecords) (x : Name) (f : PlacedEnclo
     → IsEncloserAt (all_records hash chain) x f
 placed_at hash chain x f placed zone = grind (arith, common_steps)
 
+-- nothing is said of the wildcard
+abbrev pub IsUntold : Answer → Type 0
+IsUntold v = (n : ℕ) × ((v ≡ NoCloserName n) ⊎ (v ≡ MayBeUnsigned n))
+
 -- what is picked tells of the encloser, of the next closer name and of the wildcard; it answers as all links do, and less without one
 pub record IsPickedRead (R : HashedRecords) (x : Name) (t : ℕ) (d : Nsec3Denial) : Type 0 where
   pub f : PlacedEncloser
@@ -250,7 +301,7 @@ pub record IsPickedRead (R : HashedRecords) (x : Name) (t : ℕ) (d : Nsec3Denia
   pub picked : IsHashedRead (with_links R (hashed_picked R.links d)) x t d.answer
   pub next_closer : (q : ℕ) → d.of_next_closer ≡ Some q → ¬ (d.of_encloser ≡ Some q) → IsHashedRead (with_links R (picked_without R.links q d)) x t NotProven
   pub wildcard : (q : ℕ) → d.of_wildcard ≡ Some q → ¬ (TellsOfName d q)
-      → (n : ℕ) × IsHashedRead (with_links R (picked_without R.links q d)) x t (NoCloserName n)
+      → (less : Answer) × IsUntold less × IsHashedRead (with_links R (picked_without R.links q d)) x t less
 
 module _ (R : HashedRecords) (x : Name) (f : PlacedEncloser) (t : ℕ) (at : IsEncloserAt R x f) where
   abbrev k : HashedLink
@@ -329,6 +380,10 @@ module _ (R : HashedRecords) (x : Name) (f : PlacedEncloser) (t : ℕ) (at : IsE
   cover_gone None c q e listed others = refl
   cover_gone (Some p) c q e listed others = no_cover R c.1.value p false c.1.of listed (subst (λ s. AreOthers R.links s listed) (sym (same_Some p q e)) others)
 
+  covers_there : (cover : Option ℕ) → IsCoverAt R x at.name cover → (q : ℕ) → cover ≡ Some q → (m : HashedLink) × (link_at R.links cover ≡ Some m)
+  covers_there None c q e = absurd (none_some q e)
+  covers_there (Some p) c q e = (c.1.of.link, c.1.of.there)
+
   sole_cover : (cover : Option ℕ) → IsCoverAt R x at.name cover → (q : ℕ) → cover ≡ Some q → IsSoleOf R (next_closer x at.name) q false
   sole_cover None c q e = absurd (none_some q e)
   sole_cover (Some p) c q e = subst (λ s. IsSoleOf R (next_closer x at.name) s false) (same_Some p q e) c.1
@@ -356,7 +411,7 @@ module _ (R : HashedRecords) (x : Name) (f : PlacedEncloser) (t : ℕ) (at : IsE
     module _ (on : (listed : List HashedLink) → AreAmong R.links listed → Keeps d.of_wildcard listed → IsReadOn (with_links R listed) x t said d.answer)
         (told : (q : ℕ) → d.of_wildcard ≡ Some q → (m : Bool) × IsSoleOf R (wildcard_below (last_labels (length at.name) x)) q m)
         (less : (q : ℕ) → d.of_wildcard ≡ Some q → (listed : List HashedLink) → AreOthers R.links q listed
-        → (n : ℕ) × IsReadOn (with_links R listed) x t said (NoCloserName n)) where
+        → (v : Answer) × IsUntold v × IsReadOn (with_links R listed) x t said v) where
       read_on : (listed : List HashedLink) → AreAmong R.links listed → In at.sole.of.link listed → Keeps d.of_next_closer listed → (answer : Answer)
           → IsReadOn (with_links R listed) x t said answer → IsHashedRead (with_links R listed) x t answer
       read_on listed among has keeps answer read =
@@ -381,52 +436,82 @@ module _ (R : HashedRecords) (x : Name) (f : PlacedEncloser) (t : ℕ) (at : IsE
             let others = without_others R.links d q in
             let r = less q e listed others in (
               r.0,
+              r.1,
               read_on listed (others_among R.links q listed others)
                   (in_without R.links d q f.place k at.sole.of.there (inl (inl encloser)) (λ s. apart (inl (encloser ∙ ap Some s))))
                   (λ i h l u. in_without R.links d q i l u (inl (inr h)) (λ s. apart (inr (h ∙ ap Some s))))
-                  (NoCloserName r.0) r.1,
+                  r.0 r.2,
             );
       }
 
     -- the wildcard is not asked for
-    pub plain_read : d.of_wildcard ≡ None → d.answer ≡ said → ((n : ℕ) → d.answer ≡ NoCloserName n → ⊥) → IsPickedRead R x t d
-    plain_read none is other = grind (arith, common_steps, picked_read, plain_on, none_some)
+    pub plain_read : d.of_wildcard ≡ None → d.answer ≡ said → d.of_next_closer ≡ None → IsPickedRead R x t d
+    plain_read none is apart =
+        let never = never_closer R.apex whole (length x) t (at_rest R.apex R.links f k (length x) (sym role ∙ apart)) in
+        picked_read (λ listed among keeps. subst (IsReadOn (with_links R listed) x t said) (sym is) (plain_on (with_links R listed) x t said never))
+        (λ q e. absurd (none_some q (sym none ∙ e))) (λ q e. absurd (none_some q (sym none ∙ e)))
 
     -- or it is, and this is its record
-    module _ (n : ℕ) (closer : said ≡ NoCloserName n) (place : ℕ) (part : d.of_wildcard ≡ Some place) (m : Bool)
-        (of : IsSoleOf R (wildcard_below (last_labels n x)) place m) (says : d.answer ≡ wildcard_told_by n t of.of.link m) where
-      wild_on : (listed : List HashedLink) (answer : Answer) → IsWildcardRead (with_links R listed) x t n answer
-          → IsReadOn (with_links R listed) x t said answer
-      wild_on listed answer read = subst (λ v. IsReadOn (with_links R listed) x t v answer) (sym closer) read
+    module _ (place : ℕ) (part : d.of_wildcard ≡ Some place) (m : Bool) (of : IsSoleOf R (wildcard_below (last_labels f.count x)) place m) where
+      told_of : (q : ℕ) → d.of_wildcard ≡ Some q → (m : Bool) × IsSoleOf R (wildcard_below (last_labels (length at.name) x)) q m
+      told_of q e = (
+        m,
+        subst (λ i. IsSoleOf R (wildcard_below (last_labels i x)) q m) at.counts
+            (subst (λ i. IsSoleOf R (wildcard_below (last_labels f.count x)) i m) (same_Some place q (sym part ∙ e)) of),
+      )
 
-      counted : n ≡ length at.name
-      counted = (closer_counts R.apex whole (length x) t n closer).0 ∙ at.counts
+      -- with opt-out it changes nothing
+      unsigned_read : said ≡ MayBeUnsigned f.count → d.answer ≡ MayBeUnsigned f.count → IsPickedRead R x t d
+      unsigned_read out says =
+          let same : said ≡ d.answer = out ∙ sym says in
+          let never : (n : ℕ) → said ≡ NoCloserName n → ⊥ = λ n e. absurd (let u = out in cc) in
+          picked_read (λ listed among keeps. subst (IsReadOn (with_links R listed) x t said) same (plain_on (with_links R listed) x t said never)) told_of
+          (λ q e listed others. (said, (f.count, inr out), plain_on (with_links R listed) x t said never))
 
-      pub wildcard_read : IsPickedRead R x t d
-      wildcard_read =
-          picked_read (λ listed among keeps. wild_on listed d.answer (record {
-            value = of.value;
-            known = of.known;
-            says = says ∙ told_in R of.value place m of.of listed among (keeps place part of.of.link of.of.there) n t;
-          }))
-          (λ q e. (
-            m,
-            subst (λ i. IsSoleOf R (wildcard_below (last_labels i x)) q m) counted
-                (subst (λ i. IsSoleOf R (wildcard_below (last_labels n x)) i m) (same_Some place q (sym part ∙ e)) of),
-          ))
-          (λ q e listed others. (
-            n,
-            wild_on listed (NoCloserName n) (record {
+      -- without opt-out it answers
+      module _ (closer : said ≡ NoCloserName f.count) (says : d.answer ≡ wildcard_told_by f.count t of.of.link m) where
+        wild_on : (listed : List HashedLink) (answer : Answer) → IsWildcardRead (with_links R listed) x t f.count answer
+            → IsReadOn (with_links R listed) x t said answer
+        wild_on listed answer read = subst (λ v. IsReadOn (with_links R listed) x t v answer) (sym closer) read
+
+        gone : (listed : List HashedLink) → AreOthers R.links place listed → NoCloserName f.count
+            ≡ wildcard_told f.count t (first_match (with_links R listed) of.value) (first_cover (with_links R listed) of.value)
+        gone listed others = λ i. wildcard_told f.count t (sym (no_match R of.value place m of.of listed others) i)
+            (sym (no_cover R of.value place m of.of listed others) i)
+
+        closer_read : IsPickedRead R x t d
+        closer_read =
+            picked_read (λ listed among keeps. wild_on listed d.answer (record {
               value = of.value;
               known = of.known;
-              says = gone listed (subst (λ s. AreOthers R.links s listed) (sym (same_Some place q (sym part ∙ e))) others);
-            }),
-          ))
-        where
-          gone : (listed : List HashedLink) → AreOthers R.links place listed → NoCloserName n
-              ≡ wildcard_told n t (first_match (with_links R listed) of.value) (first_cover (with_links R listed) of.value)
-          gone listed others = λ i. wildcard_told n t (sym (no_match R of.value place m of.of listed others) i)
-              (sym (no_cover R of.value place m of.of listed others) i)
+              says = says ∙ told_in R of.value place m of.of listed among (keeps place part of.of.link of.of.there) f.count t;
+            })) told_of
+            (λ q e listed others. (
+              NoCloserName f.count,
+              (f.count, inl refl),
+              wild_on listed (NoCloserName f.count) (record {
+                value = of.value;
+                known = of.known;
+                says = gone listed (subst (λ s. AreOthers R.links s listed) (sym (same_Some place q (sym part ∙ e))) others);
+              }),
+            ))
+
+      -- the answer rests on the cover
+      pub wildcard_read : (q : ℕ) → d.of_next_closer ≡ Some q → d.answer ≡ with_wildcard said (wildcard_told_by f.count t of.of.link m) → IsPickedRead R x t d
+      wildcard_read q e says =
+          let r = role_is q e in
+          let c = covers_there f.cover at.covers q r.1 in
+          elim (rested R.apex whole (length x) t r.0 c.0 c.1) [
+            | inl closer ↦ closer_read closer (says ∙ ap (λ v. with_wildcard v (wildcard_told_by f.count t of.of.link m)) closer)
+            | inr out ↦ unsigned_read out (says ∙ ap (λ v. with_wildcard v (wildcard_told_by f.count t of.of.link m)) out)
+          ]
+
+  -- all links tell of the encloser
+  abbrev pub whole_in : Encloser
+  whole_in = seen R.links
+
+  pub encloser_whole : IsEncloser R x whole_in
+  encloser_whole = encloser_in R.links (all_among R.links) (in_at R.links f.place k at.sole.of.there)
 
 -- ---- where none is found
 
@@ -440,20 +525,72 @@ module _ (hash : Hash) (chain : ChainRecords) (x : Name) (f : PlacedEncloser) (p
   first : (k : HashedLink) × IsFirstAnswer chain f (length x) t k told
   first = let k = record_there chain.links f.place placed.found.inside in (k.0, says k.0 k.1)
 
-  asked_counts : (n : ℕ) → told.0 ≡ NoCloserName n → (n ≡ f.count) × (nat_eq f.count (length x) ≡ false)
-  asked_counts n asks = closer_counts chain.param.owner (encloser_at chain.links f first.0) (length x) t n (sym first.1.0 ∙ asks)
+  abbrev own : Encloser
+  own = encloser_at chain.links f first.0
 
-  pub asked_less : (n : ℕ) → told.0 ≡ NoCloserName n → n < length x
-  asked_less n asks = let c = asked_counts n asks in let short = below_length x placed.name placed.reached.above in grind (arith, common_steps, eqb-false)
+  -- the cover is picked where the answer rests on it
+  cover_is : (q : ℕ) → told.1 ≡ Some q → (rests_below chain.param.owner own (length x) ≡ true) × (f.cover ≡ Some q)
+  cover_is q e = role_by (rests_below chain.param.owner own (length x)) f.cover q (sym first.1.1 ∙ e)
 
-  pub refused_below : (n : ℕ) → told.0 ≡ NoCloserName n → is_at_or_below x chain.param.owner ≡ true → (r : ℕ)
-      → hash_name hash (wildcard_below (last_labels n x)) ≡ Err r → IsRefusedAbove chain.param.owner hash x r
-  refused_below n asks low r refused = grind (arith, common_steps, asked_counts, below_length, last_above, last_low)
+  role_rests : (q : ℕ) → told.1 ≡ Some q → (k : HashedLink) → slice_get chain.links f.place ≡ Some k
+      → rests_below chain.param.owner (encloser_at chain.links f k) (length x) ≡ true
+  role_rests q e k there = (role_by (rests_below chain.param.owner (encloser_at chain.links f k) (length x)) f.cover q (sym (says k there).1 ∙ e)).0
+
+  pub asked_less : (q : ℕ) → told.1 ≡ Some q → f.count < length x
+  asked_less q e =
+      let short = below_length x placed.name placed.reached.above in
+      let other = rests_other (nat_eq f.count (length x)) _ _ (cover_is q e).0 in
+      let counts = placed.counts in grind (arith, common_steps, eqb-false)
+
+  pub refused_below : (q : ℕ) → told.1 ≡ Some q → is_at_or_below x chain.param.owner ≡ true → (r : ℕ)
+      → hash_name hash (wildcard_below (last_labels f.count x)) ≡ Err r → IsPickRefusal hash chain x r
+  refused_below q e low r refused =
+      let a = chain.param.owner in
+      let less = asked_less q e in
+      let counts = placed.counts in
+      let many = below_length placed.name a placed.reached.within in
+      record {
+        first = λ zone.
+            let at = placed_at hash chain x f placed zone in
+            let k = at.sole.of.link in
+            inr (record {
+              encloser = whole_in (all_records hash chain) x f t at;
+              is = encloser_whole (all_records hash chain) x f t at;
+              asks = role_rests q e k at.sole.of.there;
+              refused = refused;
+            });
+        above = record {
+          name = last_labels f.count x;
+          above = last_above x f.count;
+          within = last_low a x f.count low (omega (arith, counts, many)) (omega (arith, less));
+          refused = inr refused;
+        };
+        apex = λ s. absurd (let count = same_count x a s in omega (arith, count, counts, many, less));
+      }
+
+  -- ---- for any chain the record of the wildcard is picked exactly for names that do not exist
+
+  pub missing_plain : (d : Nsec3Denial) → d.answer ≡ told.0 → d.of_next_closer ≡ told.1 → d.of_wildcard ≡ None → told.1 ≡ None → ArePickedIfMissing d
+  missing_plain d answer closer wildcard none =
+      let other : is_of_missing_name d.answer ≡ false = ap is_of_missing_name (answer ∙ first.1.0)
+      ∙ never_missing chain.param.owner own (length x) t (at_rest chain.param.owner chain.links f first.0 (length x) (sym first.1.1 ∙ none)) in
+      record { next_closer = ap is_some (closer ∙ none) ∙ sym other; wildcard = ap is_some wildcard ∙ sym other }
+
+  pub missing_wildcard : (d : Nsec3Denial) (q : ℕ) → told.1 ≡ Some q → d.of_next_closer ≡ told.1 → (place : ℕ) → d.of_wildcard ≡ Some place
+      → (n : ℕ) (k : HashedLink) (m : Bool) → d.answer ≡ with_wildcard told.0 (wildcard_told_by n t k m) → ArePickedIfMissing d
+  missing_wildcard d q e closer place wildcard n k m answer =
+      let c = cover_is q e in
+      let i = record_there chain.links q (placed.reached.there q c.1) in
+      let two = rested chain.param.owner own (length x) t c.0 i.0 (ap (link_at chain.links) c.1 ∙ i.1) in
+      let absent : is_of_missing_name d.answer ≡ true = ap is_of_missing_name answer ∙ elim two [
+        | inl closer ↦ ap (λ v. is_of_missing_name (with_wildcard v (wildcard_told_by n t k m))) (first.1.0 ∙ closer) ∙ told_missing n t k m
+        | inr out ↦ ap (λ v. is_of_missing_name (with_wildcard v (wildcard_told_by n t k m))) (first.1.0 ∙ out)
+      ] in
+      record { next_closer = ap is_some (closer ∙ e) ∙ sym absent; wildcard = ap is_some wildcard ∙ sym absent }
 
   -- the places are places of the chain
   pub all_there : (part : Option ℕ) → ((q : ℕ) → part ≡ Some q → q < length chain.links) → (place : ℕ)
       → ((Some f.place ≡ Some place) ⊎ (told.1 ≡ Some place)) ⊎ (part ≡ Some place) → place < length chain.links
   all_there part wild place (inl (inl e)) = subst (λ n. n < length chain.links) (same_Some f.place place e) placed.found.inside
-  all_there part wild place (inl (inr e)) = placed.reached.there place
-      (role_by (rests_below chain.param.owner (encloser_at chain.links f first.0) (length x)) f.cover place (sym first.1.1 ∙ e)).1
+  all_there part wild place (inl (inr e)) = placed.reached.there place (cover_is place e).1
   all_there part wild place (inr e) = wild place e

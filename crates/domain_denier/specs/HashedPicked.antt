@@ -1,14 +1,16 @@
 -- The records of an NSEC3 chain with which a server answers a question (RFC 5155, section 7.2).
 use Rattle.std.specs.{List.Contains, Prelude.{ℕ, ◌≡◌, ◌⊎◌, ◌<◌, ◌==◌, ◌++◌, true, false, List, length, Option, Some, None, Result, Ok, Err, IfOk, slice_get}}
-use Rattle.std.specs.Prelude.{if◌then◌else◌, ◌&&◌, ◌||◌, Bool, not}
+use Rattle.std.specs.Prelude.{if◌then◌else◌, ◌&&◌, ◌||◌, Bool, not, is_some}
 use Rattle.domain_names.specs.Name.{is_at_or_below, last_labels, lowered, same_name, wire_of, Name}
 use Rattle.domain_hasher.specs.declared.error.Nsec3HashError.{Nsec3HashError}
 use Rattle.domain_zone.specs.Zone.{ZoneRecord}
 use Rattle.domain_nsec3.specs.Chain.{ChainRecords, HashedLink, IsHashedChain, ChainConfig, Hash, hash_name, Parameters}
 use Rattle.domain_checker.specs.HashedVerdict.{is_covered, is_matched, next_closer, IsFirst, HashedRecords, chain_records, with_links, is_hash_cover}
-use Rattle.domain_checker.specs.{HashedVerdict.is_hash_match, HashedReading.{Encloser, encloser_is_cut, IsUnmatched}}
+use Rattle.domain_checker.specs.{HashedVerdict.{IsFirstRefusal, is_hash_match}, HashedReading.{Encloser, encloser_is_cut, IsEncloser, IsUnmatched}}
 use Rattle.domain_answer.specs.HashedReading.{AreAskedAlone, hashed_proved_answer, tells_wildcard, hashed_encloser, hashed_zone_answer, IsHashedRead}
-use Rattle.domain_answer.specs.{HashedReading.{encloser_answer, wildcard_told}, declared.answer.Answer.{Answer, TheVariants.{AtParent, NoCloserName}}}
+use Rattle.domain_answer.specs.HashedReading.{encloser_answer, missing_closer, wildcard_told}
+use Rattle.domain_answer.specs.declared.answer.Answer.{Answer, TheVariants.{AtParent, NoCloserName}}
+use Rattle.domain_answer.specs.declared.answer.Answer.TheVariants.{MayBeUnsigned, NameError, Wildcard, WildcardAlias, WildcardNoData}
 use Rattle.domain_answer.specs.{declared.answer.Answer.TheVariants.{NotProven, OutsideZone}, Reading.{LeavesOutBelowDname, needs_no_records}}
 use Rattle.domain_answer.specs.ZoneAnswer.{is_at_parent, wildcard_below}
 use Rattle.domain_denier.specs.{Picked.{at_place, link_at}, declared.{nsec3.Nsec3Denial.Nsec3Denial, encloser.PlacedEncloser.PlacedEncloser}}
@@ -80,14 +82,16 @@ abbrev pub AreHashedThere : List HashedLink → Nsec3Denial → Type 0
 AreHashedThere links d = (place : ℕ) → IsPicked d place → place < length links
 
 -- without any one of the records of the name, nothing is proved, unless the parent zone answers;
--- without a record that was picked only for the wildcard, only that the name does not exist
+-- without a record that was picked only for the wildcard, only that the name does not exist; with
+-- opt-out the answer is `MayBeUnsigned` with and without that record, which RFC 5155, section 7.2.2,
+-- asks for
 pub record AreHashedNeeded (L : List ZoneRecord) (a : Name) (config : ChainConfig)
     (links : List HashedLink) (x : Name) (t : ℕ) (d : Nsec3Denial) : Type 0 where
   pub name : (place : ℕ) → TellsOfName d place → is_at_parent a x t ≡ false
       → hashed_proved_answer L a config (picked_without links place d) x t ≡ NotProven
   pub wildcard : (place : ℕ) → d.of_wildcard ≡ Some place → ¬ (TellsOfName d place)
       → hashed_proved_answer L a config (picked_without links place d) x t
-      ≡ NoCloserName (length (hashed_encloser L a config x))
+      ≡ missing_closer config (length (hashed_encloser L a config x))
 
 -- each picked record has its role: one matches the closest encloser, one covers the next closer
 -- name, and one matches or covers the wildcard below the closest encloser
@@ -123,6 +127,21 @@ pub record IsAtParent (d : Nsec3Denial) : Type 0 where
   pub next_closer : d.of_next_closer ≡ None
   pub wildcard : d.of_wildcard ≡ None
 
+-- the answer is about a name that the chain does not have, below no zone cut of the chain and no
+-- owner of a DNAME record: it counts the labels of the closest encloser
+abbrev pub is_of_missing_name : Answer → Bool
+is_of_missing_name (NameError n) = true
+is_of_missing_name (Wildcard n) = true
+is_of_missing_name (WildcardAlias n) = true
+is_of_missing_name (WildcardNoData n) = true
+is_of_missing_name (MayBeUnsigned n) = true
+is_of_missing_name _ = false
+
+-- a record was picked for the next closer name, and one for the wildcard, exactly for such a name
+pub record ArePickedIfMissing (d : Nsec3Denial) : Type 0 where
+  pub next_closer : is_some d.of_next_closer ≡ is_of_missing_name d.answer
+  pub wildcard : is_some d.of_wildcard ≡ is_of_missing_name d.answer
+
 -- the contract of what is picked from a chain with this hash, or of the error in its place
 pub record IsHashedDenied (hash : Hash) (chain : ChainRecords) (x : Name) (t : ℕ)
     (result : Result Nsec3Denial Nsec3HashError) : Type 0 where
@@ -140,8 +159,10 @@ pub record IsHashedDenied (hash : Hash) (chain : ChainRecords) (x : Name) (t : �
       → IfOk result (λ d. (L : List ZoneRecord) (config : ChainConfig)
       → IsHashedWhole L config hash chain
       → IsHashedRead (with_links (all_records hash chain) (hashed_picked chain.links d)) x t d.answer)
-  -- for any chain: the picked places are in it
+  -- for any chain: the picked places are in it, and the record of the wildcard is picked exactly if
+  -- the name does not exist in the chain, also with opt-out (RFC 5155, sections 7.2.2 and 7.2.5)
   pub there : IfOk result (AreHashedThere chain.links)
+  pub missing : IfOk result ArePickedIfMissing
 
 -- the hasher fails for x, an ancestor at or below the apex, or the wildcard right below one of
 -- these
@@ -262,3 +283,32 @@ pub record IsWildcardAnswer (hash : Hash) (chain : ChainRecords) (x : Name) (t n
       is_match
   pub answer : (k : HashedLink) → slice_get chain.links told.1 ≡ Some k
       → told.0 ≡ wildcard_told_by n t k is_match
+
+-- the answer by what is first said of the name and by what the record of the wildcard says; with
+-- opt-out, the first
+abbrev pub with_wildcard : Answer → Answer → Answer
+with_wildcard (NoCloserName n) of_wildcard = of_wildcard
+with_wildcard first of_wildcard = first
+
+-- ---- which error of the hasher comes
+
+-- the hasher fails for the wildcard below the closest encloser, which is looked up if the answer
+-- rests on the cover of the next closer name; the hasher has a hash for each name before
+pub record IsPickedWildcardRefusal (R : HashedRecords) (x : Name) (n : ℕ) : Type 0 where
+  pub encloser : Encloser
+  pub is : IsEncloser R x encloser
+  pub asks : rests_below R.apex encloser (length x) ≡ true
+  pub refused : hash_name R.hash (wildcard_below (last_labels encloser.count x)) ≡ Err n
+
+-- the first of the hasher's errors among the names that are looked up: x and its ancestors up to the
+-- closest encloser, and then that wildcard
+abbrev pub IsFirstPickRefusal : HashedRecords → Name → ℕ → Type 0
+IsFirstPickRefusal R x n = IsFirstRefusal R x n ⊎ IsPickedWildcardRefusal R x n
+
+-- which error of the hasher comes for a name x at or below the apex
+pub record IsPickRefusal (hash : Hash) (chain : ChainRecords) (x : Name) (n : ℕ) : Type 0 where
+  -- for the chain of a zone: that of the first name that is refused
+  pub first : IsOfZone hash chain → IsFirstPickRefusal (all_records hash chain) x n
+  -- for any chain: that of a name that may be looked up; if x is the apex, that of the apex
+  pub above : IsRefusedAbove chain.param.owner hash x n
+  pub apex : same_name x chain.param.owner ≡ true → hash_name hash chain.param.owner ≡ Err n

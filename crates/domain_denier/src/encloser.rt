@@ -2,7 +2,7 @@
 ghost use Rattle.std.specs.Prelude.{◌≡◌, ◌<◌, true, length, IfOk, IfErr};
 ghost use Rattle.domain_names.specs.Name.{is_at_or_below};
 ghost use Rattle.domain_nsec3.specs.{Chain.IsNoHash, View.hash_by};
-ghost use Rattle.domain_denier.specs.HashedPicked.{IsRefusedAbove, IsFoundPlaced};
+ghost use Rattle.domain_denier.specs.HashedPicked.{IsPickRefusal, IsFoundPlaced};
 
 use crate::hash_search::look_up;
 use domain_base::{MAX_NAME, ToName};
@@ -34,8 +34,8 @@ pub(crate) fn find_encloser<O: Octets, M: ToName, H: Nsec3Hasher>(
     requires below { is_at_or_below (M.labels name.now) chain.now.param.owner ≡ true }
     ensures ok { IfOk result (IsFoundPlaced
         (hash_by (H.answer hasher.now) chain.now.param.parameters) chain.now (M.labels name.now)) }
-    ensures err { IfErr result (IsNoHash (IsRefusedAbove chain.now.param.owner
-        (hash_by (H.answer hasher.now) chain.now.param.parameters) (M.labels name.now))
+    ensures err { IfErr result (IsNoHash (IsPickRefusal
+        (hash_by (H.answer hasher.now) chain.now.param.parameters) chain.now (M.labels name.now))
         (H.takes_memory hasher.now)) }
 {
     let apex = chain.nsec3param().owner();

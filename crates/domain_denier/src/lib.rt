@@ -10,9 +10,9 @@
 //!
 //! `deny_nsec3` picks the records of an NSEC3 chain, which `judge_nsec3` accepts. They are the
 //! record that matches the closest encloser of the name, the one that covers the name one label
-//! longer, and the one of the wildcard. Each is picked if the answer rests on it. It hashes the
-//! names from the name up to the closest encloser and, if needed, the wildcard, and searches for
-//! each hash in the same way.
+//! longer, and the one of the wildcard. The last two are picked if the name does not exist in the
+//! chain, also with opt-out. It hashes the names from the name up to the closest encloser and then,
+//! if its record is picked, the wildcard. It searches for each hash in the same way.
 #![tactic(auto)]
 
 mod encloser;

@@ -3,8 +3,8 @@ ghost use Rattle.std.specs.Prelude.{◌≡◌, ◌<◌, ℕ, None, Some, Err, le
 ghost use Rattle.domain_names.specs.Name.{is_at_or_below, last_labels};
 ghost use Rattle.domain_nsec3.specs.{Chain.{HashedLink, hash_name, IsNoHash}, View.hash_by};
 ghost use Rattle.domain_answer.specs.{HashedReading.flag_of, ZoneAnswer.{is_at_parent, wildcard_below}};
-ghost use Rattle.domain_denier.specs.HashedPicked.{without_records, ArePlaces, IsHashedDenied, IsRefusedAbove};
-ghost use Rattle.domain_denier.specs.HashedPicked.{wildcard_told_by, IsFirstAnswer, IsWildcardAnswer};
+ghost use Rattle.domain_denier.specs.HashedPicked.{without_records, ArePlaces, IsHashedDenied, IsPickRefusal};
+ghost use Rattle.domain_denier.specs.HashedPicked.{wildcard_told_by, with_wildcard, IsFirstAnswer, IsWildcardAnswer};
 ghost use Rattle.domain_denier.specs.Picked.{link_at};
 
 use crate::encloser::{PlacedEncloser, find_encloser};
@@ -31,7 +31,7 @@ pub struct Nsec3Denial {
     /// on it.
     pub of_next_closer: Option<usize>,
     /// The record that matches or covers the wildcard below the closest encloser, if the answer
-    /// rests on it.
+    /// rests on that of the next closer name.
     pub of_wildcard: Option<usize>,
 }
 
@@ -171,6 +171,17 @@ fn wildcard_answer<O: Octets, M: ToName, H: Nsec3Hasher>(
     Ok((wildcard_told(chain, count, rtype, found), found.place))
 }
 
+/// Returns the answer by what was first said of a name that does not exist, and by what the record
+/// of the wildcard says. With opt-out this is the first.
+fn with_wildcard(first: Answer, of_wildcard: Answer) -> Answer
+    ensures { result ≡ with_wildcard first of_wildcard }
+{
+    match first {
+        Answer::NoCloserName(_) => of_wildcard,
+        unsigned => unsigned,
+    }
+}
+
 /// Picks records for a name in the zone, unless the parent zone answers.
 fn pick<O: Octets, M: ToName, H: Nsec3Hasher>(
     alloc: Global,
@@ -183,8 +194,8 @@ fn pick<O: Octets, M: ToName, H: Nsec3Hasher>(
     requires here { is_at_parent chain.now.param.owner (M.labels name.now) rtype ≡ false }
     ensures denied { IsHashedDenied (hash_by (H.answer hasher.now) chain.now.param.parameters)
         chain.now (M.labels name.now) rtype result }
-    ensures err { IfErr result (IsNoHash (IsRefusedAbove chain.now.param.owner
-        (hash_by (H.answer hasher.now) chain.now.param.parameters) (M.labels name.now))
+    ensures err { IfErr result (IsNoHash (IsPickRefusal
+        (hash_by (H.answer hasher.now) chain.now.param.parameters) chain.now (M.labels name.now))
         (H.takes_memory hasher.now)) }
 {
     // By this law what the records say is what the zone says, for a type of 16 bits.
@@ -197,19 +208,19 @@ fn pick<O: Octets, M: ToName, H: Nsec3Hasher>(
     let Some(encloser) = found else {
         return Ok(without_records(Answer::NotProven));
     };
-    let (answer, of_next_closer) = first_answer(chain, encloser, name, rtype);
+    let (told, of_next_closer) = first_answer(chain, encloser, name, rtype);
     let first = Nsec3Denial {
-        answer,
+        answer: told,
         of_encloser: Some(encloser.place),
         of_next_closer,
         of_wildcard: None,
     };
-    let Answer::NoCloserName(count) = answer else {
+    if of_next_closer.is_none() {
         return Ok(first);
-    };
-    let (answer, place) = wildcard_answer(alloc, chain, name, rtype, count, hasher)?;
+    }
+    let (wildcard, place) = wildcard_answer(alloc, chain, name, rtype, encloser.count, hasher)?;
     Ok(Nsec3Denial {
-        answer,
+        answer: with_wildcard(told, wildcard),
         of_wildcard: Some(place),
         ..first
     })
@@ -219,37 +230,35 @@ fn pick<O: Octets, M: ToName, H: Nsec3Hasher>(
 /// type (RFC 5155, section 7.2), and what they prove: at most three.
 ///
 /// The first record matches the closest encloser of the name, which may be the name itself. If the
-/// answer rests on the absence of the name one label longer, the second record covers that name. If
-/// it rests on the wildcard below the closest encloser, the third record matches or covers the
-/// wildcard. Put into the response:
+/// answer rests on the absence of the name one label longer, the second record covers that name,
+/// and the third matches or covers the wildcard below the closest encloser. Put into the response:
 ///
 /// - all that are returned, for a name error or a wildcard without data (sections 7.2.2 and 7.2.5),
 ///   for no data or an unsigned delegation (`NoDs`; also in a referral, if you ask for the zone
-///   cut), for DS at the apex (`AtParent`), or if a delegation was left out of the chain
-///   (`MayBeUnsigned`, sections 7.2.4 and 7.2.7);
+///   cut), or for DS at the apex (`AtParent`);
+/// - the first two, for a referral to a delegation that was left out of the chain, or for its DS
+///   records (sections 7.2.7 and 7.2.4);
 /// - only the second, if the answer was expanded from a wildcard (section 7.2.6);
 /// - none, for a positive answer or a redirection.
 ///
 /// A name outside the zone has none.
 ///
 /// If the chain has the opt-out flag, each name that does not exist is `MayBeUnsigned`, whatever
-/// the wildcard does, and the wildcard is not looked up. A response with a name error, or with no
-/// data of a wildcard, needs the wildcard's record too. To get it, call `deny_nsec3` for the
-/// wildcard: it is the record of the closest encloser if the wildcard exists, else that of the next
-/// closer name.
+/// the wildcard does: the zone's own data say which of these responses is due. A name error, or no
+/// data of a wildcard, needs the wildcard's record all the same.
 ///
 /// The chain must leave out the names below an owner of a DNAME record, or the zone must have none
 /// (RFC 6672, section 2.4). The apex and the parameters are those of the chain's NSEC3PARAM record.
 /// Names are hashed from the name towards the apex, up to the first that a record matches, and then
-/// the wildcard if it is needed. None is hashed twice, unless the next closer name is that
+/// the wildcard if it is picked. None is hashed twice, unless the next closer name is that
 /// wildcard. No name is hashed if the name is outside the zone. For each
 /// hash, about twenty hashes are compared in a chain of a million. There is no limit of iterations.
 /// Allocates nothing but the hasher's digests, one at a time.
 ///
 /// # Errors
 ///
-/// `Hasher` with the number of the hasher's error for a name that is looked up, and `OutOfMemory`
-/// if the hasher has no memory.
+/// `Hasher` with the number of the hasher's error for the first name that it rejects, in the order
+/// in which names are hashed, and `OutOfMemory` if the hasher has no memory.
 pub fn deny_nsec3<O: Octets, M: ToName, H: Nsec3Hasher>(
     alloc: Global,
     chain: &Nsec3Chain<'_, O>,
@@ -260,9 +269,9 @@ pub fn deny_nsec3<O: Octets, M: ToName, H: Nsec3Hasher>(
     ensures denied { IsHashedDenied (hash_by (H.answer hasher.now) chain.now.param.parameters)
         chain.now (M.labels name.now) rtype result }
 
-    // An error is the hasher's for a name that may be looked up, or out of memory.
-    ensures err { IfErr result (IsNoHash (IsRefusedAbove chain.now.param.owner
-        (hash_by (H.answer hasher.now) chain.now.param.parameters) (M.labels name.now))
+    // An error is the hasher's for the first name that it rejects, or out of memory.
+    ensures err { IfErr result (IsNoHash (IsPickRefusal
+        (hash_by (H.answer hasher.now) chain.now.param.parameters) chain.now (M.labels name.now))
         (H.takes_memory hasher.now)) }
 {
     let apex = chain.nsec3param().owner();
