@@ -3,16 +3,15 @@ use Rattle.std.proofs.Common.{◌≡◌, ◌≢◌, ℕ, List, [], ◌∷◌, So
 use Rattle.std.proofs.lemmas.{Bool.{cases_Bool, false≢true}, Grind.common_steps}
 use Rattle.domain_names.specs.Name.{Name}
 use Rattle.domain_bitmap.specs.Bitmap.{bitmap_octets}
-use Rattle.domain_groups.specs.declared.error.SigningError.{SigningError, TheVariants.{MultipleTtlValues, SoaRecordCouldNotBeDetermined}}
-use Rattle.domain_nsec.{specs.Chain.{links_in, nsec_lists, usual_config, IsFaultless}, proofs.ChainLemmas.chain_of}
+use Rattle.domain_groups.specs.declared.error.SigningError.{TheVariants.{MultipleTtlValues, SoaRecordCouldNotBeDetermined}}
+use Rattle.domain_nsec.{specs.Chain.{links_in, nsec_lists, usual_config}, proofs.ChainLemmas.chain_of}
 use Rattle.domain_records.specs.Order.{IsOneClass}
 use Rattle.domain_zone.specs.Zone.{covered_names, has_unequal_ttls, soa_of, unoccluded_owners}
 use Rattle.domain_zone.{specs.declared.soa.ApexSoa.ApexSoa, proofs.GivenLemmas.none_left_out}
 use Rattle.domain_borrowed.specs.Data.{zone_of_raw, RawRecord}
-use Rattle.domain_any_order.specs.{AnyOrder.OfZone, RawRecords.raw_view}
 use Rattle.denial_program.specs.{Answer.Sorts, declared.{answer.Reply.TheVariants.Nsecs, fault.DenialFault.TheVariants.{MixedClasses, Signing}}}
 use Rattle.denial_program.proofs.RunLemmas.{nsecs_made}
-use Rattle.lint_program.specs.Faults.{are_any, AreFaultsOf, HasFaults}
+use Rattle.lint_program.specs.Faults.{are_any, AreFaultsOf}
 use Rattle.lint_program.specs.declared.{faults.ZoneFaults.ZoneFaults}
 use Rattle.lint_program.specs.{Notes.Mark, Report.{plain_outcome, AreRefused, HaveChain, IsOutcome}}
 

@@ -16,13 +16,13 @@ use Rattle.domain_nsec3.specs.Chain.{hash_fault, is_hashed_before, is_original_o
 use Rattle.domain_nsec3.specs.Chain.{IsFaultless, IsFirstFault, IsFirstHashFault, IsFirstHashingFault}
 use Rattle.domain_nsec3.{specs.View.{config_of, HasherAnswer}, proofs.ChainLemmas.hash_same}
 use Rattle.domain_nsec3.specs.declared.config.GenerateNsec3Config.{GenerateNsec3Config}
-use Rattle.domain_alike.specs.Alike.{AreAlike, IsAlike, IsFirstRefusal, Pair}
+use Rattle.domain_alike.specs.Alike.{AreAlike, IsAlike, Pair}
 use Rattle.domain_records.specs.Order.{IsOneClass}
 use Rattle.domain_borrowed.specs.Data.{zone_of_raw, RawRecord}
 use Rattle.domain_any_order.specs.{AnyOrder.OfZone, RawRecords.raw_view}
-use Rattle.denial_program.specs.{Answer.{fault_of_zone, usual_nsec3_config, HasNoNsecs, HasNoNsec3s, Sorts}, Command.Params, Fault.IsOfRecords}
-use Rattle.denial_program.{specs.declared.fault.DenialFault.{DenialFault, TheVariants.{MixedClasses, Param, Signing}}, proofs.RunLemmas.no_nsec3s}
-use Rattle.lint_program.specs.{Alike.{AreTold, IsRefusalBy}, Faults.AreFaultless, Hashed.{hash_fault_line, nsec3_fault_text, AreHashable, IsNsec3Fault}}
+use Rattle.denial_program.specs.{Answer.{usual_nsec3_config, HasNoNsecs, HasNoNsec3s, Sorts}, Command.Params, Fault.IsOfRecords}
+use Rattle.denial_program.{specs.declared.fault.DenialFault.{DenialFault, TheVariants.{MixedClasses, Param, Signing}}}
+use Rattle.lint_program.specs.{Alike.{AreTold}, Faults.AreFaultless, Hashed.{hash_fault_line, nsec3_fault_text, AreHashable, IsNsec3Fault}}
 use Rattle.lint_program.{specs.Report.AreRefused, proofs.SetLemmas.{not_mixed, of_both}}
 
 -- no two names of a zone without a fault have the same hash
@@ -39,29 +39,17 @@ pub config_usual : {S : Type 0} (answers : HasherAnswer) (config : GenerateNsec3
     → config.occlude_below_dname ≡ false → config_of answers config ≡ usual_nsec3_config answers p
 config_usual answers config p params excludes dnskeys dnames = grind (arith, common_steps)
 
-fault_signing : (e : SigningError) → e ≢ NoRoom → fault_of_zone e ≡ Signing e
-fault_signing NoRoom other = absurd (other refl)
-fault_signing _ other = refl
-
 module _ (answers : HasherAnswer) (given sorted : List RawRecord) (apex : Name) (p : Params) (sorts : Sorts given sorted) (one : IsOneClass sorted) where
   module _ (config : ChainConfig) (usual : config ≡ usual_nsec3_config answers p) where
     pub hashed_well : IsFaultless (zone_of_raw sorted) apex config → AreHashable answers given apex p
     hashed_well h = record { sorted = sorted; sorts = sorts; one_class = one; zone = subst (IsFaultless (zone_of_raw sorted) apex) usual h }
 
-    pub hashed_badly : (e : SigningError) → IsFirstFault (zone_of_raw sorted) apex config e → e ≢ NoRoom → HasNoNsec3s answers given apex p (Signing e)
-    hashed_badly e h other =
-        subst (HasNoNsec3s answers given apex p) (fault_signing e other)
-        (no_nsec3s given sorted apex sorts one answers p e (subst (λ c. IsFirstFault (zone_of_raw sorted) apex c e) usual h))
-
-    pub alike_told : (pairs : List Pair) → AreAlike (zone_of_raw sorted) apex config pairs → AreTold answers given apex (Some p) pairs
+    alike_told : (pairs : List Pair) → AreAlike (zone_of_raw sorted) apex config pairs → AreTold answers given apex (Some p) pairs
     alike_told pairs h =
         inr (record { sorted = sorted; sorts = sorts; one_class = one; zone = subst (λ c. AreAlike (zone_of_raw sorted) apex c pairs) usual h })
 
     pub none_told : IsFaultless (zone_of_raw sorted) apex config → AreTold answers given apex (Some p) []
     none_told h = alike_told [] (none_alike (zone_of_raw sorted) apex config h)
-
-    pub refusal_told : (n : ℕ) → IsFirstRefusal (zone_of_raw sorted) apex config n → IsRefusalBy answers given apex (Some p) n
-    refusal_told n h = record { sorted = sorted; sorts = sorts; one_class = one; zone = subst (λ c. IsFirstRefusal (zone_of_raw sorted) apex c n) usual h }
 
 -- ---- `denial nsec3` rejects records for one fault.
 

@@ -1,9 +1,9 @@
 -- Each fault of the records has a note.
-use Rattle.std.proofs.Common.{◌≡◌, ◌≢◌, ◌&&◌, ℕ, nat_eq, List, [], ◌∷◌, ◌++◌, Some, None, Option, Bool, true, false, arith, cond, length}
+use Rattle.std.proofs.Common.{◌≡◌, ◌≢◌, ◌&&◌, ℕ, nat_eq, List, [], ◌∷◌, ◌++◌, Some, None, Option, Bool, true, arith, cond, length}
 use Rattle.std.proofs.Common.{length-append, refl, sym, subst, append_assoc, ap, ◌∙◌, inl, inr, eqb-true}
 use Rattle.std.proofs.lemmas.{Bool.{cases_Bool, eqb-false}, Grind.common_steps}
-use Rattle.std.specs.{List.{find, list_any, AllByRecursion}, Prelude.IsSome}
-use Rattle.domain_names.specs.Name.{same_name, Name}
+use Rattle.std.specs.{List.{find}, Prelude.IsSome}
+use Rattle.domain_names.specs.Name.{Name}
 use Rattle.domain_base.specs.Types as rtypes
 use Rattle.domain_zone.proofs.{NameLemmas.same_itself, PairLemmas.{In, find_none, in_either, in_front, in_middle}}
 use Rattle.domain_borrowed.specs.Data.{RawRecord}

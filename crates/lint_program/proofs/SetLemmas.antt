@@ -1,11 +1,11 @@
 -- Records have one sorted set, and what holds of its zone.
-use Rattle.std.proofs.Common.{◌≡◌, List, [], ◌∷◌, Some, None, Option, arith, cond, refl, sym, subst, ap, ◌∙◌, inl, inr, true, false, Bool}
-use Rattle.std.proofs.{lemmas.{Bool.cases_Bool, Cmp.tied_itself, Grind.common_steps}}
-use Rattle.std.specs.{Cmp.IsTotalOrder, List.{find, AllByRecursion, Sorted.IsStrictlySortedBy}, Ordering.{is_eq, ordering_reverse}}
+use Rattle.std.proofs.Common.{◌≡◌, List, [], ◌∷◌, Some, None, arith, cond, refl, sym, subst, ap, ◌∙◌, inl, inr}
+use Rattle.std.proofs.{lemmas.{Cmp.tied_itself, Grind.common_steps}}
+use Rattle.std.specs.{Cmp.IsTotalOrder, List.{AllByRecursion, Sorted.IsStrictlySortedBy}, Ordering.{is_eq}}
 use Rattle.std.specs.declared.cmp.Ordering.{Ordering, TheVariants.{Less, Equal, Greater}}
-use Rattle.domain_record.specs.Record.{record_cmp, record_cmp_total}
-use Rattle.domain_records.specs.Order.{first_equal, IsOneClass}
-use Rattle.domain_zone.proofs.PairLemmas.{In, all_in, find_some}
+use Rattle.domain_record.specs.Record.{record_cmp_total}
+use Rattle.domain_records.specs.Order.{first_equal}
+use Rattle.domain_zone.proofs.PairLemmas.{all_in, find_some}
 use Rattle.domain_zone.specs.Zone.{ZoneRecord}
 use Rattle.domain_borrowed.specs.Data.{data_cmp, data_cmp_total, zone_of_raw, RawRecord}
 use Rattle.domain_any_order.{specs.{AnyOrder.{AreMixed, OfZone}, RawRecords.raw_view}, proofs.KeptLemmas.classes_kept}

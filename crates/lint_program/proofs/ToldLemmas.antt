@@ -8,7 +8,7 @@ use Rattle.domain_octets.specs.Octets.{Octets}
 use Rattle.domain_names.specs.Name.{same_name, Name, Tokens}
 use Rattle.domain_base.specs.Scan.{IsNumber}
 use Rattle.domain_base.specs.Types as rtypes
-use Rattle.domain_rdata.specs.{Zone.{Kind, kind_of, rtype_of}, Scan.{RdataText, own, generic}}
+use Rattle.domain_rdata.specs.{Zone.{kind_of, rtype_of}, Scan.{RdataText, own, generic}}
 use Rattle.domain_rdata.specs.declared.zone_record_data.ZoneRecordData.{ZoneRecordData, TheVariants.{Soa, Unknown}}
 use Rattle.domain_record.specs.Record.{record_cmp, record_cmp_total}
 use Rattle.domain_records.specs.Order.{IsOneClass}
@@ -18,7 +18,7 @@ use Rattle.domain_zone.proofs.WalkLemmas.{any_in, in_any}
 use Rattle.domain_borrowed.{specs.Data.{data_cmp, data_cmp_total, minimum_of, zone_of_raw, RawRecord}, proofs.DataLemmas.minimum_last}
 use Rattle.domain_any_order.specs.{RawRecords.{raw_data, raw_view}}
 use Rattle.domain_any_order.proofs.{AmongLemmas.{all_pairs, contains_in}, KeptLemmas.{clash_among, type_kept}}
-use Rattle.denial_program.specs.{Answer.Sorts, Listing.{IsBad, IsLineRecord, IsSkipped}}
+use Rattle.denial_program.specs.{Answer.Sorts, Listing.{IsLineRecord}}
 use Rattle.lint_program.specs.Faults.{are_any, fails, AreFaultless, AreFaultsOf}
 use Rattle.lint_program.specs.Notes.{is_apex_soa, missing_soa, AreNoted, Mark}
 use Rattle.lint_program.specs.{Report.{AreLinted, AreRefused}, declared.{faults.ZoneFaults.ZoneFaults, looks.Reason.Reason}}

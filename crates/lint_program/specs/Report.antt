@@ -1,5 +1,5 @@
 -- The report on an input, line by line, and as a whole.
-use Rattle.std.specs.Prelude.{◌≡◌, ◌⊎◌, ℕ, ◌+◌, List, [], ◌∷◌, Bool, true, false, ◌≢◌, ◌≤◌, ◌==◌, ◌&&◌, ◌++◌, All, codes, length, Option}
+use Rattle.std.specs.Prelude.{◌≡◌, ◌⊎◌, ℕ, ◌+◌, List, [], ◌∷◌, Bool, ◌≢◌, ◌≤◌, ◌==◌, ◌++◌, All, codes, length, Option}
 use Rattle.std.specs.{Prelude.{Some, None, if◌then◌else◌}, Fmt.decimal}
 use Rattle.domain_octets.specs.{Octets.Octets, Text.{space, tilde}}
 use Rattle.domain_borrowed.specs.Data.{RawRecord}
