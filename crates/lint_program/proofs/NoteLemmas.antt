@@ -103,7 +103,7 @@ found_more l a records places i r d marks last within is paired found told =
 -- ---- lists
 
 -- the last of a list is the one that stands at a place, or comes after it
-split_last : {A : Type 0} (xs ys zs : List A) (x y : A) → xs ++ x ∷ [] ≡ ys ++ y ∷ zs
+pub split_last : {A : Type 0} (xs ys zs : List A) (x y : A) → xs ++ x ∷ [] ≡ ys ++ y ∷ zs
     → ((zs ≡ []) × (xs ≡ ys) × (x ≡ y)) ⊎ ((ws : List A) × (zs ≡ ws ++ x ∷ []) × (xs ≡ ys ++ y ∷ ws))
 split_last [] [] zs x y h = inl (cc, refl, cc)
 split_last [] (z ∷ ys) zs x y h = absurd (let n = ap length h in let m = length-append ys (y ∷ zs) in omega (arith, n, m))

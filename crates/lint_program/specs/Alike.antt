@@ -1,5 +1,5 @@
 -- Names of an NSEC3 chain with the same hash, as they are reported for the records of an input.
-use Rattle.std.specs.Prelude.{◌≡◌, ◌⊎◌, ℕ, List, [], ◌∷◌, ◌++◌, Option, Some, None, codes}
+use Rattle.std.specs.Prelude.{◌≡◌, ◌⊎◌, ℕ, List, [], ◌++◌, Option, Some, None, codes}
 use Rattle.domain_octets.specs.Octets.{Octets}
 use Rattle.domain_names.specs.{Text.name_text, Name.Name}
 use Rattle.domain_alike.specs.Alike.{AreAlike, IsFirstRefusal, Pair}
@@ -7,7 +7,6 @@ use Rattle.domain_any_order.specs.{AnyOrder.{AreMixed, OfZone}, RawRecords.raw_v
 use Rattle.domain_borrowed.specs.Data.{RawRecord}
 use Rattle.domain_nsec3.specs.View.{HasherAnswer}
 use Rattle.denial_program.specs.{Answer.usual_nsec3_config, Command.Params, Text.lines_of}
-use Rattle.lint_program.specs.declared.outcome.Outcome.{Outcome, TheVariants.Faulty}
 
 -- these pairs are reported for the chain that `denial nsec3` would make of the records with these
 -- parameters: none without parameters, or if the records are of several classes
@@ -32,8 +31,3 @@ alike_line p =
 
 abbrev pub alike_text : List Pair → Octets
 alike_text = lines_of alike_line
-
--- the outcome with these pairs, each of which is a fault; `plain` is the outcome without them
-abbrev pub outcome_with : List Pair → Outcome → Outcome
-outcome_with [] plain = plain
-outcome_with (p ∷ more) plain = Faulty

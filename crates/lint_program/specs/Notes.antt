@@ -51,14 +51,6 @@ look_of BesideAlias = look.Aliases
 look_of OddData = look.Data
 look_of Parameters = look.Data
 
--- whether the reason may be a fault for which `denial` rejects the records
-abbrev pub fails : Reason → Bool
-fails NoSoa = true
-fails SecondSoa = true
-fails OtherClass = true
-fails OtherTtl = true
-fails _ = false
-
 -- the record is an SOA record of the apex
 abbrev pub is_apex_soa : Name → RawRecord → Bool
 is_apex_soa a r = (r.«data».rtype == rtypes.soa) && same_name r.owner a

@@ -1,12 +1,13 @@
 -- The report on an input, line by line, and as a whole.
-use Rattle.std.specs.Prelude.{◌≡◌, ◌⊎◌, ℕ, ◌+◌, List, [], ◌∷◌, Bool, true, false, ◌≢◌, ◌≤◌, ◌==◌, ◌&&◌, ◌++◌, All, codes, length, Option}
+use Rattle.std.specs.Prelude.{◌≡◌, ◌⊎◌, ℕ, ◌+◌, List, [], ◌∷◌, Bool, ◌≢◌, ◌≤◌, ◌==◌, ◌++◌, All, codes, length, Option}
 use Rattle.std.specs.{Prelude.{Some, None, if◌then◌else◌}, Fmt.decimal}
 use Rattle.domain_octets.specs.{Octets.Octets, Text.{space, tilde}}
 use Rattle.domain_borrowed.specs.Data.{RawRecord}
 use Rattle.denial_program.specs.{Listing.{IsBad, IsLineRecord, IsSkipped}, Answer.{HasNoNsecs, IsNsecs}, Command.Params, Fault.IsOfRecords}
 use Rattle.denial_program.specs.declared.{answer.Reply.Reply, fault.DenialFault.DenialFault}
-use Rattle.lint_program.specs.{declared.outcome.Outcome.{Outcome, TheVariants.{Clean, Warned, Faulty}}, Alike.{alike_text, outcome_with}}
-use Rattle.lint_program.specs.{Alike.{AreTold, IsRefusalBy}, Command.Asks, Notes.{frame, fails, AreNoted, Mark}}
+use Rattle.lint_program.specs.{declared.{faults.ZoneFaults.ZoneFaults, outcome.Outcome.{Outcome, TheVariants.{Clean, Warned, Faulty}}}, Alike.alike_text}
+use Rattle.lint_program.specs.{Alike.{AreTold, IsRefusalBy}, Command.Asks, Faults.{are_any, fails, AreFaultless, AreFaultsOf}}
+use Rattle.lint_program.specs.{Hashed.{nsec3_fault_text, outcome_with, IsNsec3Fault}, Notes.{frame, AreNoted, Mark}}
 use Rattle.domain_names.specs.Name.{Name, Tokens}
 use Rattle.domain_alike.specs.Alike.{Pair}
 use Rattle.domain_nsec3.specs.View.{HasherAnswer}
@@ -33,12 +34,6 @@ abbrev pub exit_status : Outcome → ℕ
 exit_status Clean = 0
 exit_status Warned = 3
 exit_status Faulty = 1
-
--- a fault was found
-abbrev pub is_faulty : Outcome → Bool
-is_faulty Clean = false
-is_faulty Warned = false
-is_faulty Faulty = true
 
 -- ---- The report on an input.
 
@@ -83,22 +78,23 @@ pub record IsLine (is_fault : Bool) (mark : Mark) (text : Octets) : Type 0 where
   pub is : text ≡ kind_of is_fault ++ place_text mark.place ++ (frame mark.reason).0 ++ told
       ++ (frame mark.reason).1 ++ codes "\n"
 
--- the line of a note: a fault of the zone if the records are rejected and the reason may be a
--- fault, and else a warning
-abbrev pub IsNote : Bool → Mark → Octets → Type 0
-IsNote are_refused mark text = IsLine (fails mark.reason && are_refused) mark text
+-- the line of a note: a fault of the zone if the reason is one of its faults, and else a warning
+abbrev pub IsNote : ZoneFaults → Mark → Octets → Type 0
+IsNote faults mark text = IsLine (fails faults mark.reason) mark text
 
 -- a line for each of these marks
-abbrev pub AreNotes : Bool → List Mark → Octets → Type 0
-AreNotes are_refused = AreEach (IsNote are_refused)
+abbrev pub AreNotes : ZoneFaults → List Mark → Octets → Type 0
+AreNotes faults = AreEach (IsNote faults)
 
 -- the records have no NSEC chain, for a fault for which `denial` rejects them
 abbrev pub AreRefused : List RawRecord → Name → Type 0
 AreRefused records apex = (fault : DenialFault) × IsOfRecords fault × HasNoNsecs records apex fault
 
--- the records have an NSEC chain
-abbrev pub HaveChain : List RawRecord → Name → Type 0
-HaveChain records apex = (answer : Reply) × IsNsecs records apex answer
+-- the records have an NSEC chain, and no fault for which `denial` rejects them
+pub record HaveChain (records : List RawRecord) (apex : Name) : Type 0 where
+  pub answer : Reply
+  pub chain : IsNsecs records apex answer
+  pub faultless : AreFaultless records apex
 
 -- the outcome if these lines are bad, the others give these records, and these marks are reported
 abbrev pub IsOutcome : List ℕ → List RawRecord → Name → List Mark → Outcome → Type 0
@@ -106,15 +102,27 @@ IsOutcome bad records apex marks Clean = (bad ≡ []) × HaveChain records apex 
 IsOutcome bad records apex marks Warned = (bad ≡ []) × HaveChain records apex × (marks ≢ [])
 IsOutcome bad records apex marks Faulty = (bad ≢ []) ⊎ AreRefused records apex
 
+-- the outcome of notes about records without a fault
+abbrev pub noted_outcome : List Mark → Outcome
+noted_outcome [] = Clean
+noted_outcome (mark ∷ more) = Warned
+
+-- the outcome without an NSEC3 chain, by the bad lines, the faults of the zone, and the notes
+abbrev pub plain_outcome : List ℕ → ZoneFaults → List Mark → Outcome
+plain_outcome [] faults marks = if are_any faults then Faulty else noted_outcome marks
+plain_outcome (n ∷ more) faults marks = Faulty
+
 -- the report on these lines: each bad line, and no other, by its number; then the notes that the
--- records of the others deserve, and nothing else; and with parameters each pair of names that have
--- the same hash
+-- records of the others deserve, and nothing else; and with parameters a fault of hashing for which
+-- `denial nsec3` rejects the records, and each pair of names that have the same hash
 pub record IsTold (answers : HasherAnswer) (lines : List Octets) (apex : Name) (p : Option Params)
     (outcome : Outcome) (text : Octets) : Type 0 where
   pub bad : List ℕ
   pub numbers : List ℕ
   pub records : List RawRecord
   pub marks : List Mark
+  pub zone_faults : ZoneFaults
+  pub nsec3_fault : Option SigningError
   pub pairs : List Pair
   pub faults : Octets
   pub notes : Octets
@@ -122,11 +130,14 @@ pub record IsTold (answers : HasherAnswer) (lines : List Octets) (apex : Name) (
   pub are : AreLinted 1 lines bad numbers records
   pub told : AreFaults bad faults
   pub deserved : AreNoted (length bad == 0) apex records numbers marks
-  pub noted : AreNotes (is_faulty plain) marks notes
+  pub found : AreFaultsOf records apex zone_faults
+  pub noted : AreNotes zone_faults marks notes
+  pub hashed : IsNsec3Fault answers records apex p nsec3_fault
   pub alike : AreTold answers records apex p pairs
-  pub is : text ≡ (faults ++ notes) ++ alike_text pairs
+  pub is : text ≡ ((faults ++ notes) ++ nsec3_fault_text nsec3_fault) ++ alike_text pairs
   pub known : IsOutcome bad records apex marks plain
-  pub tells : outcome ≡ outcome_with pairs plain
+  pub decided : plain ≡ plain_outcome bad zone_faults marks
+  pub tells : outcome ≡ outcome_with pairs nsec3_fault plain
 
 -- the arguments have parameters, with which the hasher fails for a name of the records
 pub record IsRefused (answers : HasherAnswer) (words : Tokens) (lines : List Octets)

@@ -6,10 +6,10 @@
 //! decisions:
 //!
 //! - which lines are bad, by `next_line` of `denial_program`, each line separately;
-//! - whether the others are rejected as a zone, by the generator of their NSEC chain;
+//! - the faults of the others for which `denial nsec` rejects them, by `faults_of`;
 //! - which of their records deserve a note, and why, by `notes_of`;
-//! - which of their names have the same hash, if parameters of an NSEC3 chain are given, by
-//!   `alike_of`.
+//! - if parameters of an NSEC3 chain are given, for which fault `denial nsec3` rejects them, and
+//!   which of their names have the same hash, by `hashed_of`.
 //!
 //! `explain` then works out what is wrong in a bad line. Its text, and the text of a note between
 //! the words of its reason, are only promised to be printable and without a line end.
@@ -19,7 +19,9 @@ mod alike;
 mod command;
 mod explain;
 mod fault;
+mod faults;
 mod firsts;
+mod hashed;
 pub mod laws;
 mod looks;
 mod note_text;

@@ -1,7 +1,7 @@
 //! The looks at the records of a zone. A look compares each record with the first before it in its
 //! group, and finds whether it deserves a note.
 ghost use Rattle.std.specs.Prelude.{◌≡◌, ◌↔◌, IfNone, IfSome, IsTrue, option_map};
-ghost use Rattle.lint_program.specs.Notes.{fails, group_of, is_apex_soa, look_of, stands_beside_alias, Deserves, FindsNothing};
+ghost use Rattle.lint_program.specs.Notes.{group_of, is_apex_soa, look_of, stands_beside_alias, Deserves, FindsNothing};
 ghost use Rattle.lint_program.specs.Notes.{AreDuplicates, AreInConflict};
 
 use crate::reading::Place;
@@ -50,18 +50,6 @@ pub enum Reason {
     OddData,
     /// NSEC3PARAM data with additional iterations or a salt.
     Parameters,
-}
-
-impl Reason {
-    /// Returns whether the reason may be a fault for which `denial` rejects the records.
-    pub fn fails(&self) -> bool
-        ensures { result ≡ fails self.now }
-    {
-        match self {
-            Reason::NoSoa | Reason::SecondSoa | Reason::OtherClass | Reason::OtherTtl => true,
-            _ => false,
-        }
-    }
 }
 
 /// A record, and its place in the input.

@@ -1,6 +1,6 @@
 //! The outcome of a run.
 ghost use Rattle.std.specs.Prelude.{◌≡◌};
-ghost use Rattle.lint_program.specs.Report.{exit_status, is_faulty};
+ghost use Rattle.lint_program.specs.Report.{exit_status};
 
 /// What was found in an input.
 #[derive(Clone, Copy, Debug, PartialEq, Eq)]
@@ -15,7 +15,7 @@ pub enum Outcome {
 
 impl Outcome {
     /// Returns the exit status of the program: 0 if nothing was found, 1 if there is a fault, for
-    /// which `denial nsec` rejects the input, and 3 if there are only warnings.
+    /// which `denial nsec` or `denial nsec3` rejects the input, and 3 if there are only warnings.
     pub fn status(&self) -> u8
         ensures { result ≡ exit_status self.now }
     {
@@ -24,12 +24,5 @@ impl Outcome {
             Outcome::Warned => 3,
             Outcome::Faulty => 1,
         }
-    }
-
-    /// Returns whether there is a fault.
-    pub fn is_faulty(&self) -> bool
-        ensures { result ≡ is_faulty self.now }
-    {
-        *self == Outcome::Faulty
     }
 }

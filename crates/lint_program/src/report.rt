@@ -2,12 +2,13 @@
 ghost use Rattle.std.specs.{Prelude.{◌≡◌, ◌++◌, All, OnOk, map}, Io.KnownBytes.Appends};
 ghost use Rattle.domain_octets.specs.Octets.{Octets};
 ghost use Rattle.domain_alike.specs.Alike.{pair_of};
-ghost use Rattle.lint_program.specs.{Alike.alike_text, Notes.mark_of, Report.{is_faulty, AreFaults, AreNotes}};
-ghost use Rattle.lint_program.specs.Report.{IsFault, IsNote, IsPrinted};
+ghost use Rattle.lint_program.specs.{Alike.alike_text, Hashed.nsec3_fault_text, Notes.mark_of};
+ghost use Rattle.lint_program.specs.Report.{AreFaults, AreNotes, IsFault, IsNote, IsPrinted};
 
 use crate::explain::explain;
+use crate::faults::ZoneFaults;
+use crate::hashed::{Hashed, nsec3_fault_text};
 use crate::notes::Note;
-use crate::outcome::Outcome;
 use crate::reading::BadLine;
 use domain_alike::Alike;
 use domain_base::ToName;
@@ -51,13 +52,12 @@ fn write_faults<W: Write>(alloc: Global, bad: &[BadLine<'_>], output: &mut W) ->
     Ok(())
 }
 
-/// Writes a note: as a fault of the zone if the records are rejected and the reason may be a fault,
-/// and else as a warning.
-fn write_note<W: Write>(note: &Note, are_refused: bool, output: &mut W) -> io::Result<()>
-    ensures { OnOk result ((text : Octets) × IsNote are_refused (mark_of note.now) text
+/// Writes a note: as a fault of the zone if the reason is one of its faults, and else as a warning.
+fn write_note<W: Write>(note: &Note, faults: ZoneFaults, output: &mut W) -> io::Result<()>
+    ensures { OnOk result ((text : Octets) × IsNote faults (mark_of note.now) text
         × Appends (W.contents output.old) (W.contents output.new) text) }
 {
-    let is_fault = note.reason.fails() & are_refused;
+    let is_fault = faults.fail(note.reason);
     let kind = if is_fault { "zone: " } else { "warning: " };
     let (opening, closing) = note.reason.frame();
     let told = printed(note.text.as_str());
@@ -68,12 +68,12 @@ fn write_note<W: Write>(note: &Note, are_refused: bool, output: &mut W) -> io::R
 }
 
 /// Writes notes, one a line.
-fn write_notes<W: Write>(notes: &[Note], are_refused: bool, output: &mut W) -> io::Result<()>
-    ensures { OnOk result ((text : Octets) × AreNotes are_refused (map mark_of notes.now) text
+fn write_notes<W: Write>(notes: &[Note], faults: ZoneFaults, output: &mut W) -> io::Result<()>
+    ensures { OnOk result ((text : Octets) × AreNotes faults (map mark_of notes.now) text
         × Appends (W.contents output.old) (W.contents output.new) text) }
 {
     for note in notes {
-        write_note(note, are_refused, output)?;
+        write_note(note, faults, output)?;
     }
     Ok(())
 }
@@ -92,24 +92,25 @@ fn write_alike<W: Write>(pairs: &[Alike<'_>], output: &mut W) -> io::Result<()>
     Ok(())
 }
 
-/// Writes the report, and flushes the output. `outcome` is the outcome without names that have the
-/// same hash.
+/// Writes the report, and flushes the output.
 pub fn write_report<W: Write>(
     alloc: Global,
     bad: &[BadLine<'_>],
     notes: &[Note],
-    outcome: Outcome,
-    alike: &[Alike<'_>],
+    faults: ZoneFaults,
+    hashed: &Hashed<'_>,
     output: &mut W,
 ) -> io::Result<()>
-    ensures { OnOk result ((faults : Octets) × (noted : Octets)
-        × AreFaults (map (λ b. b.number) bad.now) faults
-        × AreNotes (is_faulty outcome) (map mark_of notes.now) noted
+    ensures { OnOk result ((told : Octets) × (noted : Octets)
+        × AreFaults (map (λ b. b.number) bad.now) told
+        × AreNotes faults (map mark_of notes.now) noted
         × Appends (W.contents output.old) (W.contents output.new)
-        ((faults ++ noted) ++ alike_text (map pair_of alike.now))) }
+        (((told ++ noted) ++ nsec3_fault_text hashed.now.fault)
+        ++ alike_text (map pair_of hashed.now.pairs.items))) }
 {
     write_faults(alloc, bad, output)?;
-    write_notes(notes, outcome.is_faulty(), output)?;
-    write_alike(alike, output)?;
+    write_notes(notes, faults, output)?;
+    write!(output, "{}", nsec3_fault_text(hashed.fault))?;
+    write_alike(&hashed.pairs, output)?;
     output.flush()
 }

@@ -8,7 +8,8 @@ use Rattle.domain_hasher.specs.declared.error.Nsec3HashError.TheVariants as hash
 use Rattle.domain_groups.specs.declared.error.SigningError.TheVariants as signing_error
 use Rattle.denial_program.{specs.{Command.Params, declared.fault.DenialFault.TheVariants.{OutOfMemory as Memory, Signing}}, proofs.LineLemmas.known_so}
 use Rattle.domain_alike.specs.Alike.{pair_of}
-use Rattle.lint_program.specs.{Alike.{alike_text, outcome_with, IsRefusalBy}, Command.{Asks, IsHashedCommand}, Notes.mark_of, Report.{IsRefused, IsTold}}
+use Rattle.lint_program.specs.{Alike.{alike_text, IsRefusalBy}, Command.{Asks, IsHashedCommand}, Hashed.{nsec3_fault_text, outcome_with}, Notes.mark_of}
+use Rattle.lint_program.{specs.Report.{plain_outcome, IsRefused, IsTold}, proofs.FaultLemmas.plain_known}
 use Rattle.lint_program.specs.declared.reading.{BadLine.BadLine, Place.Place}
 use Rattle.lint_program.proofs.program.run_lint.Goals as goal
 
@@ -23,7 +24,10 @@ returns-in-Ok-clause-ok g c =
     let asked = c.in_ok-apex.field-0 in
     let read = c.in_ok-lines.lines in
     let written = c.in-Ok.ensures in
-    let pairs = map pair_of c.in_ok-outcome.alike.items in
+    let bad = map (λ (b : BadLine). b.number) read.bad.items in
+    let marks = map mark_of c.in_ok-notes.notes.items in
+    let hashed = c.in_ok-faults.hashed in
+    let pairs = map pair_of hashed.pairs.items in
     known_so _
     (λ bytes. (x : Name) × (o : Option Params) × (text : Octets) × Asks (map string_bytes c.args.words.now) x o
     × IsTold answers (lines bytes) x o c.outcome_with.result text
@@ -31,39 +35,45 @@ returns-in-Ok-clause-ok g c =
     (λ bytes linted. (
       asked.apex,
       asked.parameters,
-      (written.0 ++ written.1) ++ alike_text pairs,
+      ((written.0 ++ written.1) ++ nsec3_fault_text hashed.fault) ++ alike_text pairs,
       c.in_ok-apex.ensures.ok,
       record {
-        bad = map (λ (b : BadLine). b.number) read.bad.items;
+        bad = bad;
         numbers = map (λ (p : Place). p.number) read.places.items;
         records = read.records.items;
-        marks = map mark_of c.in_ok-notes.notes.items;
+        marks = marks;
+        zone_faults = c.in_ok-faults.faults;
+        nsec3_fault = hashed.fault;
         pairs = pairs;
         faults = written.0;
         notes = written.1;
-        plain = c.in_ok-outcome.outcome;
+        plain = plain_outcome bad c.in_ok-faults.faults marks;
         are = linted;
-        told = rw c.deref-3.ensures.value at written.2;
+        told = rw c.deref.ensures.value at written.2;
         deserved = rw (length-map read.bad.items (λ (b : BadLine). b.number)) c.in_ok-notes.ensures;
-        noted = rw c.deref-4.ensures.value at written.3;
-        alike = c.in_ok-outcome.ensures.alike;
+        found = c.in_ok-faults.ensures.faults;
+        noted = rw c.deref-2.ensures.value at written.3;
+        hashed = c.in_ok-faults.ensures.fault;
+        alike = c.in_ok-faults.ensures.alike;
         is = refl;
-        known = rw (c.deref.ensures.value, c.deref-2.ensures.value) at c.in_ok-outcome.ensures.outcome;
-        tells = c.outcome_with.ensures ∙ ap (λ ps. outcome_with (map pair_of ps) c.in_ok-outcome.outcome) c.deref-in-Ok.ensures.value;
+        known = plain_known read.records.items asked.apex c.in_ok-faults.faults bad marks c.in_ok-faults.ensures.faults;
+        decided = refl;
+        tells = c.outcome_with.ensures ∙ ap (outcome_with pairs hashed.fault)
+            (rw (c.deref-in-Ok.ensures.value, c.deref-in-Ok-2.ensures.value) at c.plain_outcome.ensures);
       },
-      rw c.deref-5.ensures.value at written.4,
+      written.4,
     ))
     c.in_ok-lines.ensures.ok
 
-pub returns-in_err-outcome-clause-usage : goal.returns-in_err-outcome-clause-usage
-returns-in_err-outcome-clause-usage g c =
-    grind (arith, common_steps, hashed_command, c.from_residual-in_err-outcome.ensures.1, c.in_err-outcome.ensures.err, c.in_ok-apex.ensures.ok)
+pub returns-in_err-faults-clause-usage : goal.returns-in_err-faults-clause-usage
+returns-in_err-faults-clause-usage g c =
+    grind (arith, common_steps, hashed_command, c.from_residual-in_err-faults.ensures.1, c.in_err-faults.ensures.err, c.in_ok-apex.ensures.ok)
 
-pub returns-in_err-outcome-clause-refused : goal.returns-in_err-outcome-clause-refused
-returns-in_err-outcome-clause-refused g c = λ error is.
+pub returns-in_err-faults-clause-refused : goal.returns-in_err-faults-clause-refused
+returns-in_err-faults-clause-refused g c = λ error is.
     let read = c.in_ok-lines.lines in
-    let same : Signing error ≡ c.in_err-outcome.field-0.0 = grind (arith, common_steps, c.from_residual-in_err-outcome.ensures.1, is) in
-    elim c.in_err-outcome.ensures.err [
+    let same : Signing error ≡ c.in_err-faults.field-0.0 = grind (arith, common_steps, c.from_residual-in_err-faults.ensures.1, is) in
+    elim c.in_err-faults.ensures.err [
       | inl none ↦ absurd (let other : Signing error ≡ Memory = same ∙ none in cc)
       | inr r ↦
           let told : Signing error ≡ Signing (signing_error.Nsec3HashingError (hash_error.Hasher r.0)) = same ∙ r.1 in

@@ -6,5 +6,5 @@ pub loop-note-preserved : goal.loop-note-preserved
 loop-note-preserved g c =
     let notes = c.args.notes.now in
     let i = c.loop-note.note-index in
-    told_more (IsNote c.args.are_refused) mark_of notes i _ _ _ _
+    told_more (IsNote c.args.faults) mark_of notes i _ _ _ _
     (take_more notes i _ c.loop-note-test.true ∙ ap (λ n. take i notes ++ n ∷ []) (sym c.note-item.is)) c.loop-note.invariant c.in_ok-write_note.ensures

@@ -6,5 +6,5 @@ use Rattle.lint_program.proofs.report.write_notes.Given as goal
 -- the notes so far were told
 abbrev pub invariant-loop-note : goal.invariant-loop-note
 invariant-loop-note g l =
-    (text : Octets) × AreNotes l.are_refused (map mark_of (take l.note-index l.notes)) text
+    (text : Octets) × AreNotes l.faults (map mark_of (take l.note-index l.notes)) text
     × Appends (g.W.Write.contents l.fn.output) (g.W.Write.contents l.output) text
