@@ -1,6 +1,6 @@
 -- What is picked of the NSEC3 chain of a zone is found where a search by hash ends, is what its answer rests on, and no more.
 use Rattle.std.proofs.Common.{◌≡◌, ℕ, suc, ◌+◌, ◌-◌, ◌<◌, ◌≤◌, Bool, true, false, ◌||◌, List, [], ◌∷◌, map, length, get_or, slice_get, refl, sym, ap, ◌∙◌}
-use Rattle.std.proofs.Common.{None, Some, arith, inl, inr, ◌⊎◌, ◌≢◌, cond, not, ◌&&◌, Ok, subst, is_some}
+use Rattle.std.proofs.Common.{None, Option, Some, arith, inl, inr, ◌⊎◌, ◌≢◌, cond, not, ◌&&◌, Ok, subst, is_some}
 use Rattle.std.proofs.lemmas.Bool.{and_parts, cases_Bool, cases_eq, false≢true, or_left}
 use Rattle.std.proofs.lemmas.{Bool.{or_right, true_from_ne_false}, List.{get_or_past, length-map, Elements.recursion_from_All, Sorted.ranks_by}}
 use Rattle.std.{proofs.lemmas.{Option.{same_Some, get_or_from_slice_get, slice_get_within}, Grind.common_steps}, specs.Option.option_map_or}
@@ -23,7 +23,7 @@ use Rattle.domain_checker.specs.HashedVerdict.{is_below_chain_cut}
 use Rattle.domain_checker.specs.HashedVerdict.{owner_hash}
 use Rattle.domain_answer.proofs.{HashedAnswerLemmas.{read_proved, IsOfZone, encloser_told as whole_tells, whole_proves, zone_says}, EncloserLemmas.closest_last}
 use Rattle.domain_answer.{proofs.EncloserLemmas.{exists_low, strictly_other}, specs.HashedReading.{AreAskedAlone, hashed_proved_answer, needs_wildcard}}
-use Rattle.domain_answer.specs.{HashedReading.{hashed_exists, hashed_wildcard_answer, missing_closer}, ZoneAnswer.{expanded_answer, owned_answer}}
+use Rattle.domain_answer.specs.{HashedReading.{answer_by, hashed_exists, hashed_wildcard_answer, missing_closer}, ZoneAnswer.{expanded_answer, owned_answer}}
 use Rattle.domain_answer.specs.{HashedReading.{tells_encloser, tells_wildcard, IsHashedRead, hashed_encloser, hashed_zone_answer}, ZoneAnswer.is_at_parent}
 use Rattle.domain_answer.specs.{ZoneAnswer.wildcard_below, declared.answer.Answer.{Answer, TheVariants.{MayBeUnsigned, NoCloserName, NotProven}}}
 use Rattle.domain_denier.proofs.HashedPickLemmas.{IsPickedRead, none_read, AreAmong, all_among, among_contained, contained, in_place, no_match, others_among}
@@ -425,3 +425,15 @@ denied_at_parent hash chain x s t own d low at picked answer encloser closer wil
       let apart : is_of_missing_name d.answer ≡ false = ap is_of_missing_name answer in
       record { next_closer = ap is_some closer ∙ sym apart; wildcard = ap is_some wildcard ∙ sym apart };
 }
+
+-- ---- What records say of an encloser.
+
+-- equal parts say the same
+pub answer_same : (b c : Bool) (o p : Octets) (n m k t : ℕ) (f h : Option Bool) → b ≡ c → o ≡ p → f ≡ h → m ≡ k
+    → answer_by b o n f m t ≡ answer_by c p n h k t
+answer_same b c o p n m k t f h cut bits flag count = λ i. answer_by (cut i) (bits i) n (flag i) (count i) t
+
+-- a cover is kept where none of the three holds
+pub cover_kept : (own cut directed : Bool) (cover : Option ℕ) → ((own || cut) || directed) ≡ false
+    → cover ≡ cond (not own && not cut && not directed) cover None
+cover_kept own cut directed cover none = grind (arith, common_steps)

@@ -11,7 +11,7 @@ use Rattle.domain_nsec.specs.{Chain.Link, declared.config.GenerateNsecConfig.Gen
 use Rattle.domain_checker.{proofs.MeantLemmas.{apex_exists, closest_is, config_with, contained_alike, inside}, specs.Reading.{is_cover, is_match}}
 use Rattle.domain_checker.specs.Verdict.{NsecChainsAreKnown, NsecFacts, has_match_or_cover}
 use Rattle.domain_answer.proofs.{ChainLemmas.{facts_leaving, given_never, match_own}, EncloserLemmas.{closest_last, free_parts, wildcard_low, answer_so}}
-use Rattle.domain_answer.specs.Reading.{IsAnswered, is_missing, knows_wildcard, proved_answer, IsNameAnswer, name_answer, absent_answer, listed_both}
+use Rattle.domain_answer.specs.Reading.{IsAnswered, is_missing, knows_wildcard, proved_answer, IsNameAnswer, name_answer, absent_answer, listed_both, match_answer}
 use Rattle.domain_answer.specs.{Reading.{reading, tells_occluded, wildcard_answer}, declared.answer.NameAnswer.TheVariants.Given, ZoneAnswer.is_at_parent}
 use Rattle.domain_answer.specs.{ZoneAnswer.{wildcard_below, encloser, name_exists, zone_answer}, declared.answer.Answer.{Answer, TheVariants.AtParent}}
 use Rattle.domain_answer.specs.declared.answer.{Answer.TheVariants.{NoCloserName, OutsideZone, NotProven}, NameAnswer.NameAnswer}
@@ -132,7 +132,11 @@ module _ (a x : Name) (t : ℕ) (k : Link) where
   chosen_parts : (u p m c : Bool) (n : ℕ) → chosen u p m c ≡ NoCloserName n
       → (u ≡ true) × (p ≡ false) × (m ≡ false) × (c ≡ true) × (tells_occluded a k x ≡ false) × (is_strictly_below k.next x ≡ false)
       × (absent_answer a (k ∷ []) (length (longer (shared x k.owner) (shared x k.next))) x t ≡ NoCloserName n)
-  chosen_parts u p m c n e = grind (arith, common_steps, (match_own a k t), given_never)
+  chosen_parts false p m c n e = absurd (cc)
+  chosen_parts true true m c n e = absurd (cc)
+  chosen_parts true false true c n e = absurd (given_never (match_answer a k t) (match_answer a k t) (sym (match_own a k t)) n e)
+  chosen_parts true false false false n e = absurd (cc)
+  chosen_parts true false false true n e = grind (arith, common_steps)
 
   -- with another record, of another name, it says of the name what they say of the wildcard
   pub both_read : (n : ℕ) → reading a (k ∷ []) x t ≡ NoCloserName n → (l : Link) → is_match a x l ≡ false

@@ -177,12 +177,16 @@ module _ (R : HashedRecords) (x : Name) (t : ℕ) where
       } → AreWhole limit param R x answer (Some told)
       whole_told told is = record {
         past = λ more. absurd (omega (arith, more, (looked_up other).1));
-        within = λ few. (e, witnesses.encloser (looked_up other).0 few, ap Some is ∙ λ i. Some (record {
-          matched = encloser_told x e;
-          closer = closer_told x answer e;
-          wildcard = wildcard_is i;
-          param = Some param;
-        }));
+        within = λ few. (
+          e,
+          witnesses.encloser (looked_up other).0 few,
+          ap Some is ∙ λ i. Some (record {
+            matched = encloser_told x e;
+            closer = closer_told x answer e;
+            wildcard = wildcard_is i;
+            param = Some param;
+          }),
+        );
       }
 
 -- the records of the whole answer are to be printed unless only the answer is

@@ -151,7 +151,15 @@ pub fn write_judged<'a, W: Write, H: Nsec3Hasher>(
     match *kind {
         ChainKind::Nsec => judge_nsecs(alloc, question, *shown, records, output),
         ChainKind::Nsec3(asked) => {
-            judge_nsec3s(alloc, question, asked, *shown, known_of(records), hasher, output)
+            judge_nsec3s(
+                alloc,
+                question,
+                asked,
+                *shown,
+                known_of(records),
+                hasher,
+                output,
+            )
         }
     }
 }
