@@ -11,7 +11,8 @@ use Rattle.domain_nsec.specs.{Chain.Link, declared.config.GenerateNsecConfig.Gen
 use Rattle.domain_checker.{proofs.MeantLemmas.{apex_exists, closest_is, config_with, contained_alike, inside}, specs.Reading.{is_cover, is_match}}
 use Rattle.domain_checker.specs.Verdict.{NsecChainsAreKnown, NsecFacts, has_match_or_cover}
 use Rattle.domain_answer.proofs.{ChainLemmas.{facts_leaving, given_never, match_own}, EncloserLemmas.{closest_last, free_parts, wildcard_low, answer_so}}
-use Rattle.domain_answer.specs.Reading.{IsAnswered, is_missing, knows_wildcard, proved_answer, IsNameAnswer, name_answer, absent_answer, listed_both, match_answer}
+use Rattle.domain_answer.specs.Reading.{IsAnswered, is_missing, knows_wildcard, proved_answer, IsNameAnswer, name_answer, absent_answer}
+use Rattle.domain_answer.specs.Reading.{listed_both, match_answer}
 use Rattle.domain_answer.specs.{Reading.{reading, tells_occluded, wildcard_answer}, declared.answer.NameAnswer.TheVariants.Given, ZoneAnswer.is_at_parent}
 use Rattle.domain_answer.specs.{ZoneAnswer.{wildcard_below, encloser, name_exists, zone_answer}, declared.answer.Answer.{Answer, TheVariants.AtParent}}
 use Rattle.domain_answer.specs.declared.answer.{Answer.TheVariants.{NoCloserName, OutsideZone, NotProven}, NameAnswer.NameAnswer}
