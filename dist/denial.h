@@ -112,7 +112,11 @@ enum denial_judgement {
 
     /* The records have more iterations than the limit. Nothing was hashed (RFC 9276, section 3.2). NSEC3
      * only. */
-    DENIAL_JUDGED_TOO_MANY_ITERATIONS = 47
+    DENIAL_JUDGED_TOO_MANY_ITERATIONS = 47,
+
+    /* The signer says that the name does not exist: its record lists NXNAME, and neither the type nor CNAME
+     * (RFC 9824, section 3). A response with it has no data; it says nothing about other names. */
+    DENIAL_JUDGED_NXNAME = 50
 };
 
 /* What denial_nsec_chain and denial_nsec3_chain return if there is a chain. Otherwise they return a fault of
