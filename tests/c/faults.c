@@ -82,15 +82,18 @@ static void put_record(struct octets *to, const char *owner, int rtype, int rcla
 /* A bitmap of types below 64, which a 0 ends. */
 static void put_types(struct octets *to, const int *rtypes)
 {
-    uint8_t bits[8] = {0};
+    uint8_t bits[32] = {0};
+    size_t length = 0;
 
     if (*rtypes == 0)
         return;
-    for (; *rtypes != 0; rtypes++)
+    for (; *rtypes != 0; rtypes++) {
         bits[*rtypes / 8] |= (uint8_t)(0x80 >> (*rtypes % 8));
+        length = (size_t)*rtypes / 8 + 1;
+    }
     put_number(to, 0, 1);
-    put_number(to, sizeof bits, 1);
-    put(to, bits, sizeof bits);
+    put_number(to, length, 1);
+    put(to, bits, length);
 }
 
 static void put_nsec(struct octets *to, const char *owner, int rclass, const char *next, const int *rtypes)
