@@ -10,7 +10,10 @@
 
 #include <denial.h>
 
-enum { A = 1, NS = 2, CNAME = 5, SOA = 6, MX = 15, DNAME = 39, DS = 43, RRSIG = 46, NSEC = 47, NSEC3 = 50, NSEC3PARAM = 51, NXNAME = 128 };
+enum {
+    A = 1, NS = 2, CNAME = 5, SOA = 6, MX = 15, DNAME = 39, OPT = 41, DS = 43, RRSIG = 46, NSEC = 47, NSEC3 = 50,
+    NSEC3PARAM = 51, NXNAME = 128, AXFR = 252, ANY = 255
+};
 enum { IN = 1, CH = 3 };
 
 static int failures;
@@ -148,6 +151,17 @@ static void put_param_of(struct octets *to, const char *owner, int algorithm, in
     put_record(to, owner, NSEC3PARAM, IN, &data);
 }
 
+static void put_flagged_param(struct octets *to, const char *owner, int flags)
+{
+    struct octets data = {{0}, 0};
+
+    put_number(&data, 1, 1);
+    put_number(&data, (unsigned long)flags, 1);
+    put_number(&data, 0, 2);
+    put_number(&data, 0, 1);
+    put_record(to, owner, NSEC3PARAM, IN, &data);
+}
+
 static void put_param(struct octets *to, const char *owner, int algorithm)
 {
     put_param_of(to, owner, algorithm, 0);
@@ -268,7 +282,7 @@ static void refuse(check *call, const struct octets *apex, const struct octets *
 }
 
 static const int at_apex[] = {SOA, RRSIG, NSEC, 0}, at_host[] = {A, RRSIG, NSEC, 0},
-                 at_cut[] = {NS, RRSIG, NSEC, 0}, nothing[] = {0};
+                 at_cut[] = {NS, RRSIG, NSEC, 0}, at_child[] = {NS, SOA, RRSIG, NSEC, 0}, nothing[] = {0};
 
 /* a. with y.b.a. and the delegation c.a., and a signature between them. */
 static void put_chain(struct octets *to)
@@ -341,6 +355,7 @@ static const int at_alias[] = {CNAME, RRSIG, NSEC, 0}, at_dname[] = {DNAME, RRSI
 static void try_nsec_answers(void)
 {
     struct octets chain = {{0}, 0}, part = {{0}, 0}, none = {{0}, 0}, other = {{0}, 0}, compact = {{0}, 0};
+    struct octets foreign = {{0}, 0};
 
     put_nsec(&chain, "a.", IN, "alias.a.", at_apex);
     put_nsec(&chain, "alias.a.", IN, "*.c.a.", at_alias);
@@ -378,6 +393,13 @@ static void try_nsec_answers(void)
     put_nsec(&compact, "g.a.", IN, "h.g.a.", at_no_name);
     ask(denial_judge_nsec, "a.", "g.a.", A, &compact, DENIAL_JUDGED_NXNAME, 0);
     ask(denial_judge_nsec, "a.", "g.a.", NSEC, &compact, DENIAL_JUDGED_EXISTS, 0);
+    ask(denial_judge_nsec, "a.", "a.", AXFR, &chain, DENIAL_JUDGED_NOT_PROVEN, 0);
+    ask(denial_judge_nsec, "a.", "q.a.", OPT, &chain, DENIAL_JUDGED_NOT_PROVEN, 0);
+    /* No zone has these: the next name is before the owner, or the record is of a child's apex. */
+    put_nsec(&foreign, "z.sub.a.", IN, "sub.a.", at_host);
+    put_nsec(&foreign, "sub.a.", IN, "sub.a.", at_child);
+    ask(denial_judge_nsec, "a.", "zz.a.", A, &foreign, DENIAL_JUDGED_NOT_PROVEN, 0);
+    ask(denial_judge_nsec, "a.", "sub.a.", DS, &foreign, DENIAL_JUDGED_NOT_PROVEN, 0);
 }
 
 /* Each whole answer that two NSEC3 records give: that of the apex, and one that covers all the rest. */
@@ -386,7 +408,7 @@ static void try_nsec3_answers(void)
     static const char low[20] = {0}, high[20] = "\377\377\377\377\377\377\377\377\377\377"
                                                                "\377\377\377\377\377\377\377\377\377";
     static const char zero_owner[] = "00000000000000000000000000000000.a.";
-    struct octets chain = {{0}, 0}, opted = {{0}, 0}, half = {{0}, 0}, many = {{0}, 0};
+    struct octets chain = {{0}, 0}, opted = {{0}, 0}, half = {{0}, 0}, many = {{0}, 0}, unknown = {{0}, 0};
     const struct {
         const int *rtypes;
         uint32_t of_apex, below;
@@ -424,6 +446,20 @@ static void try_nsec3_answers(void)
     put_param(&half, "a.", 1);
     put_nsec3(&half, apex_owner, 0, low, at_apex);
     ask(judge_nsec3, "a.", "x.a.", A, &half, DENIAL_JUDGED_NOT_PROVEN, 0);
+    /* Records with a flag other than opt-out do not count, except for a check of one name. */
+    put_param(&unknown, "a.", 1);
+    put_flagged_param(&unknown, "a.", 2);
+    put_nsec3(&unknown, apex_owner, 0, low, at_apex);
+    put_nsec3(&unknown, zero_owner, 2, high, nothing);
+    ask(judge_nsec3, "a.", "a.", SOA, &unknown, DENIAL_JUDGED_EXISTS, 0);
+    ask(judge_nsec3, "a.", "x.a.", A, &unknown, DENIAL_JUDGED_NOT_PROVEN, 0);
+    ask(denial_check_nsec3, "a.", "x.a.", A, &unknown, DENIAL_NO_PARAM, 0);
+    put_nsec3(&unknown, zero_owner, 0, high, nothing);
+    ask(judge_nsec3, "a.", "x.a.", A, &unknown, DENIAL_JUDGED_NAME_ERROR, 1);
+    /* No record has such a type. */
+    ask(judge_nsec3, "a.", "a.", OPT, &unknown, DENIAL_JUDGED_NOT_PROVEN, 0);
+    ask(judge_nsec3, "a.", "x.a.", AXFR, &unknown, DENIAL_JUDGED_NOT_PROVEN, 0);
+    ask(judge_nsec3, "a.", "a.", ANY, &unknown, DENIAL_JUDGED_EXISTS, 0);
     put_param_of(&many, "a.", 1, 11);
     limit = 10;
     ask(judge_nsec3, "a.", "x.a.", A, &many, DENIAL_JUDGED_TOO_MANY_ITERATIONS, 0);

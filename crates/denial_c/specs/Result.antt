@@ -158,12 +158,58 @@ abbrev pub with_param : ℕ → Octets → Source
 with_param class records =
     record { are = AreWithParam class records; is_fault = IsChainFault class records }
 
+-- ---- The same, without the records that must be ignored for their flags.
+
+-- no flag is set but opt-out (RFC 5155, sections 4.1.2 and 8.2)
+abbrev pub has_known_flags : ℕ → Bool
+has_known_flags flags = nat_lt flags 2
+
+abbrev pub known_links : List HashedLink → List HashedLink
+known_links all = filter (λ k. has_known_flags k.flags) all
+
+abbrev pub known_params : List ParamRecord → List ParamRecord
+known_params all = filter (λ p. has_known_flags p.flags) all
+
+-- the apex has no NSEC3PARAM record with known flags, or several
+pub record HasNoKnownParam (a : Name) (class : ℕ) (records : Octets) : Type 0 where
+  pub params : List ParamRecord
+  pub are : AreParams a class records params
+  pub others : length (known_params params) ≢ 1
+
+-- the reason why there is not one such NSEC3PARAM record
+abbrev pub IsKnownParamFault : Name → ℕ → Octets → Fault → Type 0
+IsKnownParamFault a class records fault.Param = HasNoKnownParam a class records
+IsKnownParamFault a class records e = IsReadFault (AreParams a class records) e
+
+-- the reason why the NSEC3 records and such an NSEC3PARAM record are not both there
+abbrev pub IsKnownChainFault : ℕ → Octets → Name → Fault → Type 0
+IsKnownChainFault class records a e =
+    IsReadFault (AreNsec3s class records) e
+    ⊎ (((links : List HashedLink) × AreNsec3s class records links)
+    × IsKnownParamFault a class records e)
+
+-- the NSEC3 records of a class with known flags, and the one such NSEC3PARAM record of the apex
+pub record AreKnownWithParam (class : ℕ) (records : Octets) (a : Name) (links : List HashedLink)
+    (param : ParamRecord) : Type 0 where
+  pub all : List HashedLink
+  pub nsec3s : AreNsec3s class records all
+  pub known : links ≡ known_links all
+  pub params : List ParamRecord
+  pub are : AreParams a class records params
+  pub single : known_params params ≡ param ∷ []
+
+abbrev pub known_with_param : ℕ → Octets → Source
+known_with_param class records =
+    record { are = AreKnownWithParam class records; is_fault = IsKnownChainFault class records }
+
+-- ---- The same, without an NSEC3PARAM record.
+
 -- the owner of the record is one label in Base 32 hex right before the apex, and it has the hash
 -- algorithm SHA-1 and no flag other than opt-out: records with others must be ignored (RFC 5155,
 -- sections 8.1 and 8.2)
 abbrev pub is_known : Name → HashedLink → Bool
 is_known a k =
-    (k.parameters.algorithm == 1) && nat_lt k.flags 2 && is_some (hash_in a k.owner)
+    (k.parameters.algorithm == 1) && has_known_flags k.flags && is_some (hash_in a k.owner)
 
 -- the parameters of the first record; without records SHA-1, no iterations and no salt
 abbrev pub first_parameters : List HashedLink → Parameters
@@ -187,6 +233,7 @@ alone class records =
 -- the source that was chosen
 abbrev pub source_of : Telling → ℕ → Octets → Source
 source_of telling.ByRecord = with_param
+source_of telling.ByKnownRecord = known_with_param
 source_of telling.ByFirst = alone
 
 -- the apex encodes a name, and the source has this fault

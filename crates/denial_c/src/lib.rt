@@ -13,7 +13,8 @@ ghost use Rattle.std.specs.Prelude.{◌≡◌, false};
 ghost use Rattle.domain_nsec3.specs.declared.config.Nsec3ParamTtlMode.TheVariants.{Soa};
 ghost use Rattle.denial_c.specs.Chains.{hashed_config, nsec_making, nsec3_making, IsChainResult};
 ghost use Rattle.denial_c.specs.{Chains.IsCollisionResult, Result.{IsExpansionAnswer, IsNsecAnswer}};
-ghost use Rattle.denial_c.specs.Result.{IsNsec3Answer, alone, with_param, IsNsecResult, IsNsec3Result, IsTold};
+ghost use Rattle.denial_c.specs.Result.{IsNsec3Answer, alone, known_with_param, with_param};
+ghost use Rattle.denial_c.specs.Result.{IsNsecResult, IsNsec3Result, IsTold};
 ghost use Rattle.denial_c.specs.Numbers.{answer_told, chain_told, collision_number, told_by, verdict_told};
 ghost use Rattle.denial_c.specs.Numbers.{text_of, IsText};
 
@@ -78,8 +79,9 @@ pub extern "C" fn denial_judge_nsec(
 }
 
 /// Returns what NSEC3 records answer to a question about a name and a type, as a whole. The records
-/// include the one NSEC3PARAM record of the apex. If that has more iterations than the limit,
-/// nothing is hashed.
+/// include the one NSEC3PARAM record of the apex. Records with a flag other than opt-out are
+/// ignored (RFC 5155, sections 4.1.2 and 8.2). If the NSEC3PARAM record has more iterations than
+/// the limit, nothing is hashed.
 ///
 /// Returns the number of an answer or of a fault. Writes the number of labels that the answer
 /// counts, or 0.
@@ -95,9 +97,9 @@ pub extern "C" fn denial_judge_nsec3(
     labels: &mut usize,
 ) -> u32
     ensures { IsTold (told_by answer_told) (result, labels.new)
-        (IsNsec3Answer (with_param class records.now) apex.now name.now rtype limit) }
+        (IsNsec3Answer (known_with_param class records.now) apex.now name.now rtype limit) }
 {
-    let told = Telling::ByRecord;
+    let told = Telling::ByKnownRecord;
     let answer = judge::nsec3_answer(alloc, told, apex, name, rtype, class, limit, records);
     tell(answer_told(answer), labels)
 }
@@ -129,9 +131,10 @@ pub extern "C" fn denial_judge_nsec3_alone(
 }
 
 /// Returns what NSEC3 records answer for a name whose records were expanded from a wildcard (RFC
-/// 5155, section 8.8). The records include the one NSEC3PARAM record of the apex. `rrsig_labels` is
-/// the Labels field of the signatures of the expanded records (RFC 4034, section 3.1.3). If the
-/// NSEC3PARAM record has more iterations than the limit, nothing is hashed.
+/// 5155, section 8.8). The records include the one NSEC3PARAM record of the apex. Records with a
+/// flag other than opt-out are ignored. `rrsig_labels` is the Labels field of the signatures of the
+/// expanded records (RFC 4034, section 3.1.3). If the NSEC3PARAM record has more iterations than
+/// the limit, nothing is hashed.
 ///
 /// Returns the number of an answer or of a fault. Writes the number of labels that the answer
 /// counts, or 0.
@@ -147,9 +150,10 @@ pub extern "C" fn denial_judge_nsec3_expansion(
     labels: &mut usize,
 ) -> u32
     ensures { IsTold (told_by answer_told) (result, labels.new)
-        (IsExpansionAnswer (with_param class records.now) apex.now name.now rrsig_labels limit) }
+        (IsExpansionAnswer (known_with_param class records.now) apex.now name.now rrsig_labels
+        limit) }
 {
-    let told = Telling::ByRecord;
+    let told = Telling::ByKnownRecord;
     let answer = expansion_answer(alloc, told, apex, name, rrsig_labels, class, limit, records);
     tell(answer_told(answer), labels)
 }

@@ -1,9 +1,12 @@
 //! What the NSEC3 records in octets prove.
-ghost use Rattle.std.specs.Prelude.{◌≡◌, [], ◌∷◌, filter, IfErr, IfOk};
-ghost use Rattle.domain_nsec3.specs.View.{as_hashed_link, as_param_record, hashed_links_of, parameters_of};
+ghost use Rattle.std.specs.Prelude.{◌≡◌, ◌≢◌, [], ◌∷◌, filter, length, map, IfErr, IfOk};
+ghost use Rattle.std.specs.Prelude.{List};
+ghost use Rattle.domain_nsec3.specs.{Chain.ParamRecord, View.{as_hashed_link, as_param_record, hashed_links_of, parameters_of}};
 ghost use Rattle.denial_c.specs.Result.{AreNsec3s, AreParams, IsReadFault, first_parameters, is_known};
 ghost use Rattle.denial_c.specs.Result.{source_of, AreAlone, AreWithParam, IsChainFault, IsNsec3Result};
-ghost use Rattle.denial_c.specs.Result.{IsParamFault};
+ghost use Rattle.denial_c.specs.Result.{has_known_flags, known_links, known_params, AreKnownWithParam};
+ghost use Rattle.denial_c.specs.Result.{IsKnownChainFault, IsKnownParamFault, IsParamFault};
+ghost use Rattle.denial_c.specs.declared.fault.Fault.TheVariants as fault;
 ghost use Rattle.domain_checker.specs.HashedVerdict.{links};
 
 use crate::among::records_among;
@@ -24,8 +27,34 @@ use std::alloc::Global;
 pub(crate) enum Telling {
     /// The one NSEC3PARAM record of the apex.
     ByRecord,
+    /// The one NSEC3PARAM record of the apex with known flags. NSEC3 records with unknown flags are
+    /// ignored.
+    ByKnownRecord,
     /// The first of the NSEC3 records.
     ByFirst,
+}
+
+/// Returns whether no flag is set but opt-out. Records with other flags must be ignored (RFC 5155,
+/// sections 4.1.2 and 8.2).
+fn has_known_flags(flags: u8) -> bool
+    ensures { result ≡ has_known_flags flags }
+{
+    flags < 2
+}
+
+/// Returns the only one of these NSEC3PARAM records.
+fn single(mut params: Vec<ReadNsec3param<'_>>) -> Result<ReadNsec3param<'_>, Fault>
+    ensures ok { IfOk result (λ param. map (as_param_record (λ n. n)) params.entry.items
+        ≡ as_param_record (λ n. n) param ∷ []) }
+    ensures err { IfErr result (λ e. (e ≡ fault.Param) × (length params.entry.items ≢ 1)) }
+{
+    let Some(param) = params.pop() else {
+        return Err(Fault::Param);
+    };
+    if !params.is_empty() {
+        return Err(Fault::Param);
+    }
+    Ok(param)
 }
 
 /// Returns the one NSEC3PARAM record of the apex and the class in `octets`.
@@ -39,14 +68,8 @@ fn param_among<'a>(
         (as_param_record (λ n. n) param ∷ [])) }
     ensures err { IfErr result (IsParamFault apex.now class octets.now) }
 {
-    let mut params: Vec<ReadNsec3param<'a>> = records_among(alloc, apex, class, octets)?;
-    let Some(param) = params.pop() else {
-        return Err(Fault::Param);
-    };
-    if !params.is_empty() {
-        return Err(Fault::Param);
-    }
-    Ok(param)
+    let params: Vec<ReadNsec3param<'a>> = records_among(alloc, apex, class, octets)?;
+    single(params)
 }
 
 /// Returns the NSEC3 records of the class in `octets`, with the one NSEC3PARAM record of the apex.
@@ -65,6 +88,57 @@ fn chain_among<'a>(
     Ok(Nsec3Records::new(nsec3s, param))
 }
 
+/// Returns these NSEC3 records without those that have unknown flags. Does not allocate.
+fn flagged_links(mut nsec3s: Vec<ReadNsec3<'_>>) -> Vec<ReadNsec3<'_>>
+    ensures { hashed_links_of (λ n. n) result.items
+        ≡ known_links (hashed_links_of (λ n. n) nsec3s.entry.items) }
+{
+    nsec3s.retain(|nsec3| has_known_flags(nsec3.data().flags()));
+    nsec3s
+}
+
+/// Returns these NSEC3PARAM records without those that have unknown flags. Does not allocate.
+fn flagged_params(mut params: Vec<ReadNsec3param<'_>>) -> Vec<ReadNsec3param<'_>>
+    ensures { map (as_param_record (λ n. n)) result.items
+        ≡ known_params (map (as_param_record (λ n. n)) params.entry.items) }
+{
+    params.retain(|param| has_known_flags(param.data().flags()));
+    params
+}
+
+/// Returns the one NSEC3PARAM record with known flags of the apex and the class in `octets`.
+fn known_param_among<'a>(
+    alloc: Global,
+    apex: &ParsedName<'_>,
+    class: Class,
+    octets: &'a [u8],
+) -> Result<ReadNsec3param<'a>, Fault>
+    ensures ok { IfOk result (λ param. (params : List ParamRecord)
+        × AreParams apex.now class octets.now params
+        × (known_params params ≡ as_param_record (λ n. n) param ∷ [])) }
+    ensures err { IfErr result (IsKnownParamFault apex.now class octets.now) }
+{
+    let params: Vec<ReadNsec3param<'a>> = records_among(alloc, apex, class, octets)?;
+    single(flagged_params(params))
+}
+
+/// Returns the NSEC3 records with known flags of the class in `octets`, with the one such
+/// NSEC3PARAM record of the apex.
+fn known_chain_among<'a>(
+    alloc: Global,
+    apex: &ParsedName<'_>,
+    class: Class,
+    octets: &'a [u8],
+) -> Result<Nsec3Records<ParsedName<'a>, &'a [u8]>, Fault>
+    ensures ok { IfOk result (λ chain. AreKnownWithParam class octets.now apex.now
+        (links (λ n. n) chain) (as_param_record (λ n. n) chain.nsec3param)) }
+    ensures err { IfErr result (IsKnownChainFault class octets.now apex.now) }
+{
+    let nsec3s = records_among(alloc, apex, class, octets)?;
+    let param = known_param_among(alloc, apex, class, octets)?;
+    Ok(Nsec3Records::new(flagged_links(nsec3s), param))
+}
+
 /// Returns whether the record is of the zone, by its owner, its algorithm is SHA-1, and it has no
 /// flag other than opt-out. Other records must be ignored (RFC 5155, sections 8.1 and 8.2).
 fn is_known(apex: &ParsedName<'_>, nsec3: &ReadNsec3<'_>) -> bool
@@ -72,7 +146,7 @@ fn is_known(apex: &ParsedName<'_>, nsec3: &ReadNsec3<'_>) -> bool
 {
     let hashed = nsec3.data();
     (hashed.hash_algorithm() == Nsec3HashAlgorithm::SHA1)
-        & (hashed.flags() < 2)
+        & has_known_flags(hashed.flags())
         & is_hash_owner(apex, nsec3.owner())
 }
 
@@ -141,6 +215,7 @@ pub(crate) fn chain_told<'a>(
 {
     match telling {
         Telling::ByRecord => chain_among(alloc, apex, class, octets),
+        Telling::ByKnownRecord => known_chain_among(alloc, apex, class, octets),
         Telling::ByFirst => alone_among(alloc, apex, class, octets),
     }
 }

@@ -1,9 +1,11 @@
 -- What records answer does not depend on TTLs, classes and the case of letters.
-use Rattle.std.{proofs.{Common.{◌≡◌, ℕ, Bool, List, Option, Some, None, arith, cond, not, ◌&&◌, ◌||◌}, lemmas.Grind.common_steps}, specs.List.find}
-use Rattle.domain_names.specs.Name.{same_name, Name}
-use Rattle.domain_base.specs.Types.{dname}
+use Rattle.std.{proofs.{Common.{◌≡◌, ◌∙◌, ℕ, Bool, List, [], ◌∷◌, Option, Some, None}, lemmas.Grind.common_steps}, specs.List.find}
+use Rattle.std.proofs.Common.{arith, cond, not, ◌&&◌, ◌||◌}
+use Rattle.domain_names.specs.Name.{lowered, same_name, Name}
+use Rattle.domain_base.specs.Types.{dname, ns, soa}
 use Rattle.domain_chain_rdata.specs.Rdata.{is_opt_out}
-use Rattle.domain_zone.specs.Zone.{ZoneRecord, is_zone_cut}
+use Rattle.domain_zone.{proofs.NameLemmas.{before_left, before_right, same_lowered}, specs.Zone.{ZoneRecord, is_zone_cut}}
+use Rattle.domain_bitmap.specs.Blocks.{contains_type}
 use Rattle.domain_nsec.specs.Chain.{Link}
 use Rattle.domain_nsec3.specs.Chain.{HashedLink, ChainConfig, nsec3_lists}
 use Rattle.domain_checker.proofs.MeantLemmas.{IsEncloserAlike, OptionsPaired, any_alike, covered_alike, covering, encloser_alike, find_alike, is_cover_alike}
@@ -13,7 +15,23 @@ use Rattle.domain_checker.specs.Verdict.{ArePaired, IsAlike, IsHashedAlike}
 use Rattle.domain_answer.specs.HashedReading.{IsExpansionRead, closer_name, closer_told, proved_expansion, hashed_proved_answer, tells_encloser, tells_wildcard}
 use Rattle.domain_answer.specs.HashedReading.{IsHashedRead, IsReadOn, found_answer, wildcard_told, hashed_encloser, hashed_exists, hashed_zone_answer}
 use Rattle.domain_answer.specs.{declared.answer.Answer.{Answer, TheVariants.{MayBeUnsigned, NoCloserName, NotProven}}, Reading.{proved_answer, absent_answer}}
-use Rattle.domain_answer.specs.{Reading.{cover_answer, listed_both, reading, wildcard_both}, ZoneAnswer.wildcard_below}
+use Rattle.domain_answer.specs.{Reading.{cover_answer, is_usable, listed_both, reading, usable, wildcard_both}, ZoneAnswer.wildcard_below}
+
+-- ---- records that count
+
+pub is_usable_alike : (a : Name) (k l : Link) → IsAlike k l → is_usable a k ≡ is_usable a l
+is_usable_alike a k l h =
+    let order = before_left k.owner l.owner k.next (owners h) ∙ before_right l.owner k.next l.next (nexts h) in
+    λ i. (order i || same_lowered (nexts h i) (lowered a))
+    && not ((not (same_lowered (owners h i) (lowered a)) && contains_type (h.bits i) ns) && contains_type (h.bits i) soa)
+
+pub usable_alike : (a : Name) (ks ls : List Link) → ArePaired IsAlike ks ls → ArePaired IsAlike (usable a ks) (usable a ls)
+usable_alike a [] [] h = tt
+usable_alike a [] (l ∷ ls) h = absurd h
+usable_alike a (k ∷ ks) [] h = absurd h
+usable_alike a (k ∷ ks) (l ∷ ls) h = grind (arith, common_steps, (is_usable_alike a k l h.0), (usable_alike a ks ls h.1))
+
+-- ---- lists
 
 module _ (a : Name) (t : ℕ) where
   wildcard_both_alike : (n : ℕ) (w : Name) (m p c d : Option Link) → OptionsPaired IsAlike m p → OptionsPaired IsAlike c d

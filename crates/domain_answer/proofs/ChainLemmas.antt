@@ -1,14 +1,16 @@
 -- What the records of a chain that leaves out the names below a DNAME tell of the zone; what they answer is what they prove, and the whole chain
 -- proves all; and of any records at all those that an answer rests on are there.
 use Rattle.std.proofs.Common.{◌≡◌, ℕ, ◌<◌, Bool, true, false, cond, not, ◌&&◌, ◌||◌, List, [], ◌∷◌, length, refl, sym, ap, ◌∙◌, arith, ◌≢◌}
-use Rattle.std.proofs.{Common.{◌≤◌, Option, Some, None, map}, lemmas.List.Elements.{All-from_recursion, recursion_from_All}}
-use Rattle.std.proofs.lemmas.{Bool.{and_from, and_left, and_right, cases_Bool, false_from_ne_true, false≢true, and_parts}, Grind.common_steps}
+use Rattle.std.proofs.{Common.{◌≤◌, Option, Some, None, map, inl, inr, subst}, lemmas.List.Elements.{All-from_recursion, recursion_from_All}}
+use Rattle.std.proofs.lemmas.Bool.{and_from, and_left, and_right, cases_Bool, false_from_ne_true, false≢true, and_parts, or_left, or_right}
+use Rattle.std.proofs.lemmas.{Grind.common_steps}
 use Rattle.std.specs.{List.{Contains, list_any, find, AllByRecursion}, Prelude.{All, filter}}
 use Rattle.domain_octets.proofs.StdLemmas.{and_false}
 use Rattle.domain_names.specs.Name.{is_at_or_below, is_strictly_below, lowered, same_name, last_labels, before, Name}
 use Rattle.domain_base.specs.Types.{cname, dname, soa}
 use Rattle.domain_bitmap.specs.Blocks.{contains_type}
 use Rattle.domain_zone.proofs.{PairLemmas.{Stands, in_at, stands_all, find_some, any_none, in_filter, In}, NameLemmas.{one_lowered, below_itself}}
+use Rattle.domain_zone.proofs.{PairLemmas.{IsAscending, all_from_in, in_map, next_is}, NameLemmas.{before_order, same_itself}, WalkLemmas.owners_ascend}
 use Rattle.domain_zone.proofs.{NameLemmas.{lowered_below, same_is}, WalkLemmas.{below_occluder, in_any, all_distinct, all_map, weaker}}
 use Rattle.domain_zone.specs.{Covering.{matches, covers, pairs}, Enclosers.{IsClosestEncloser, longer, shared}, Zone.{ZoneRecord, OwnersNeverDescend}}
 use Rattle.domain_zone.specs.Zone.{has_type, is_occluded, is_unoccluded, is_zone_cut, occludes, owns, records_of, unoccluded_owners, distinct}
@@ -16,14 +18,17 @@ use Rattle.domain_nsec.specs.{Chain.{Link, IsChain, is_listed, nsec_lists}, decl
 use Rattle.domain_checker.proofs.MeantLemmas.{apex_exists, choose_by, closest_is, config_with, covered_encloser, covered_no_owner, covered_occluded}
 use Rattle.domain_checker.proofs.MeantLemmas.{covered_under, covered_unowned, cut_at, cut_same, either_found, ends, list_says, matched_high, matched_low}
 use Rattle.domain_checker.proofs.MeantLemmas.{matched_same, owner_low, owner_owns, paired_with_some, same_count, some_link, strictly_trans, top_occluder}
-use Rattle.domain_checker.{proofs.MeantLemmas.type_at, specs.{Reading.{is_at_cut, is_cover, is_match}, Verdict.{HasProof, IsAlike, NsecChainsAreKnown}}}
+use Rattle.domain_checker.{proofs.MeantLemmas.type_at, specs.{Reading.{is_at_cut, is_cover, is_match}, Verdict.{ArePaired, HasProof, IsAlike}}}
+use Rattle.domain_checker.specs.Verdict.{NsecChainsAreKnown}
 use Rattle.domain_checker.specs.Verdict.{NsecFacts, has_match_or_cover, is_inside}
-use Rattle.domain_answer.proofs.{AlikeLemmas.{proved_alike, reading_alike}, EncloserLemmas.{expanded_alike, owned_alike, closest_last, cut_owns, none_above}}
+use Rattle.domain_answer.proofs.AlikeLemmas.{is_usable_alike, proved_alike, reading_alike}
+use Rattle.domain_answer.proofs.{EncloserLemmas.{expanded_alike, owned_alike, closest_last, cut_owns, none_above}}
 use Rattle.domain_answer.proofs.EncloserLemmas.{asked_bound}
 use Rattle.domain_answer.{proofs.EncloserLemmas.{parent_below, strictly_enclosed, wildcard_low, highest_of, encloser_less, all_told}, specs.Reading.IsFound}
 use Rattle.domain_answer.specs.Reading.{IsAnswered, LeavesOutBelowDname, is_missing, knows_wildcard, proved_answer, CountsWithin, RestsOn, cover_answer}
 use Rattle.domain_answer.specs.Reading.{listed_answer, listed_both, match_answer, reading, tells_occluded, tells_occluder, wildcard_answer, wildcard_both}
-use Rattle.domain_answer.specs.{Reading.{IsNameAnswer, absent_answer, name_answer}, ZoneAnswer.{asked_type, is_of_child}}
+use Rattle.domain_answer.specs.{Reading.{IsNameAnswer, absent_answer, name_answer, is_usable, usable, usable_reading}, ZoneAnswer.{asked_type, is_of_child}}
+use Rattle.domain_answer.specs.ZoneAnswer.{is_meta_type}
 use Rattle.domain_answer.specs.ZoneAnswer.{nxname, owned_answer, asterisk, encloser}
 use Rattle.domain_answer.specs.ZoneAnswer.{highest_occluder, inside_answer, is_at_parent, missing_answer, name_exists, owns_type, wildcard_below, zone_answer}
 use Rattle.domain_answer.specs.declared.answer.Answer.{Answer, TheVariants.{OutsideZone, AtParent, Referral, Redirected, NoData, WildcardNoData, NameError}}
@@ -73,10 +78,10 @@ owned_none : (L : List ZoneRecord) (a : Name) (assume : Bool) (x : Name) (t : �
 owned_none L a assume x t e = grind (arith, common_steps, no_cut)
 
 -- what is said of a name at or below the apex, whose parent is not the one to answer, is what is proved
-read_by : (low parent : Bool) (said proved inner : Answer) → (low ≡ true → parent ≡ false → said ≡ proved)
-    → cond (not low) OutsideZone (cond parent AtParent said)
-    ≡ cond (not low || parent) (cond (not low) OutsideZone (cond parent AtParent inner)) proved
-read_by low parent said proved inner f = grind (arith, common_steps)
+read_by : (low parent meta : Bool) (said proved inner : Answer) → (low ≡ true → parent ≡ false → meta ≡ false → said ≡ proved)
+    → cond (not low) OutsideZone (cond parent AtParent (cond meta NotProven said))
+    ≡ cond (not low || (parent || meta)) (cond (not low) OutsideZone (cond parent AtParent (cond meta NotProven inner))) proved
+read_by low parent meta said proved inner f = grind (arith, common_steps)
 
 module _ {L : List ZoneRecord} {a : Name} {assume : Bool} {links : List Link} (facts : NsecFacts L a (config_with true assume) links) where
   abbrev owners : List Name
@@ -230,8 +235,9 @@ module _ {L : List ZoneRecord} {a : Name} {assume : Bool} {links : List Link} (f
   -- what they answer is what they prove, of every name and type
   reading_of : (listed : List Link) → All (Contains links) listed → (x : Name) (t : ℕ) → t < 65536 → reading a listed x t ≡ proved_answer L a assume listed x t
   reading_of listed among x t b =
-      read_by (is_at_or_below x a) (is_at_parent a x t) (listed_answer a listed x t) _ (inside_answer L a assume x t (highest_occluder L a x))
-      (λ low apart. list_proved listed (stands_all links listed among) x low t b ∙ rw (low, apart))
+      read_by (is_at_or_below x a) (is_at_parent a x t) (is_meta_type t) (listed_answer a listed x t) _
+      (inside_answer L a assume x t (highest_occluder L a x))
+      (λ low apart asks. list_proved listed (stands_all links listed among) x low t b ∙ rw (low, apart, asks))
 
 pub reading_proved : NsecChainsAreKnown → (listed : List Link) (a x : Name) (t : ℕ) → t < 65536 → IsAnswered listed a x t (reading a listed x t)
 reading_proved knows listed a x t b L config links leaves order chain among =
@@ -239,6 +245,39 @@ reading_proved knows listed a x t b L config links leaves order chain among =
     reading_alike a t listed some.some some.alike x
     ∙ reading_of (facts_leaving knows L a config links leaves order chain) some.some (All-from_recursion (Contains links) some.some some.among) x t b
     ∙ sym (proved_alike a t listed some.some some.alike L config.assume_dnskeys_will_be_added x)
+
+-- ---- a record of a chain counts: a zone with the apex can have it
+
+next_after : (owners : List Name) (a : Name) (p : Name × Name) → IsAscending before owners → In p (pairs owners a)
+    → (before p.0 p.1 || same_name p.1 a) ≡ true
+next_after [] a p up i = absurd i
+next_after (n ∷ owners) a p up i = elim (next_is before_order n owners a p up i) [
+  | inl h ↦ or_left (before p.0 p.1) (same_name p.1 a) h.0
+  | inr e ↦ or_right (before p.0 p.1) (same_name p.1 a) (same_itself p.1 a (ap lowered (sym e)))
+]
+
+usable_at : {L : List ZoneRecord} {a : Name} {assume : Bool} {links : List Link} (facts : NsecFacts L a (config_with true assume) links)
+    → OwnersNeverDescend L → (k : Link) → In k links → is_usable a k ≡ true
+usable_at {L} {a} {assume} {links} facts order k i =
+    let there : In (k.owner, k.next) (pairs (unoccluded_owners true L a) a) =
+    subst (In (k.owner, k.next)) facts.chain.names (in_map (λ (l : Link). (l.owner, l.next)) links k i) in
+    and_from (before k.owner k.next || same_name k.next a) (not (is_of_child (is_at_cut a k) k.bits))
+    (next_after (unoccluded_owners true L a) a (k.owner, k.next) (owners_ascend true L a order) there) (ap not (child_at facts k i))
+
+-- so does one that is like it
+usable_paired : (a : Name) (ks ls : List Link) → ArePaired IsAlike ks ls → AllByRecursion (λ l. is_usable a l ≡ true) ls → usable a ks ≡ ks
+usable_paired a [] [] h all = refl
+usable_paired a [] (l ∷ ls) h all = absurd h
+usable_paired a (k ∷ ks) [] h all = absurd h
+usable_paired a (k ∷ ks) (l ∷ ls) h all = grind (arith, common_steps, is_usable_alike, (usable_paired a ks ls h.1 all.1))
+
+pub usable_proved : NsecChainsAreKnown → (listed : List Link) (a x : Name) (t : ℕ) → t < 65536 → IsAnswered listed a x t (usable_reading a listed x t)
+usable_proved knows listed a x t b L config links leaves order chain among =
+    let some = paired_with_some IsAlike links listed among in
+    let facts = facts_leaving knows L a config links leaves order chain in
+    let stands = stands_all links some.some (All-from_recursion (Contains links) some.some some.among) in
+    let all = all_from_in (λ l. is_usable a l ≡ true) some.some (λ l i. let s = stands l i in usable_at facts order l (in_at links s.place l s.there)) in
+    ap (λ ls. reading a ls x t) (usable_paired a listed some.some some.alike all) ∙ reading_proved knows listed a x t b L config links leaves order chain among
 
 -- ---- of any records at all: those that an answer rests on are there, and what it counts is within the name
 
@@ -281,11 +320,16 @@ module _ (a : Name) (listed : List Link) where
 
 -- ---- what one pass finds
 
+-- of the records that count, the first that passes a test is the first of all that passes and counts
+pub find_usable : (a : Name) (p : Link → Bool) (ks : List Link) → find p (usable a ks) ≡ find (λ k. p k && is_usable a k) ks
+find_usable a p [] = refl
+find_usable a p (k ∷ ks) = grind (arith, common_steps, (find_usable a p ks))
+
 -- of a name at or below the apex the list says what is said of what was found
-pub found_reads : (a : Name) (listed : List Link) (x : Name) (t : ℕ) → is_at_or_below x a ≡ true → is_at_parent a x t ≡ false
+pub found_reads : (a : Name) (listed : List Link) (x : Name) (t : ℕ) → is_at_or_below x a ≡ true → is_at_parent a x t ≡ false → is_meta_type t ≡ false
     → (matched covered : Option Link) → IsFound a listed x matched covered → reading a listed x t ≡ listed_both a listed x t matched covered
-found_reads a listed x t low apart None covered found = grind (arith, common_steps)
-found_reads a listed x t low apart (Some k) covered found = grind (arith, common_steps)
+found_reads a listed x t low apart asks None covered found = grind (arith, common_steps)
+found_reads a listed x t low apart asks (Some k) covered found = grind (arith, common_steps)
 
 -- and of a wildcard
 pub found_wild : (a : Name) (listed : List Link) (n : ℕ) (w : Name) (t : ℕ) (matched covered : Option Link) → IsFound a listed w matched covered
@@ -329,7 +373,7 @@ whole_proves knows L a config links x t leaves order chain =
     let assume = config.assume_dnskeys_will_be_added in
     let en = encloser L a x in
     let facts = facts_leaving knows L a config links leaves order chain in
-    all_told (is_at_or_below x a) (is_at_parent a x t) (has_match_or_cover links x) (is_missing L a x && not (knows_wildcard L a links x))
+    all_told (is_at_or_below x a) (is_at_parent a x t) (is_meta_type t) (has_match_or_cover links x) (is_missing L a x && not (knows_wildcard L a links x))
     (zone_answer L a assume x t) (NoCloserName (length en)) (some_link facts x) (λ low.
     let closest = closest_is (unoccluded_owners true L a) a x (apex_exists facts) low in
     let wild = some_link facts (wildcard_below en) (wildcard_low (unoccluded_owners true L a) a x en closest) in

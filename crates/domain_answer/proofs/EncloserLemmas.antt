@@ -17,6 +17,7 @@ use Rattle.domain_checker.{proofs.MeantLemmas.top_occluder, specs.Verdict.closes
 use Rattle.domain_answer.specs.{Reading.{IsAbsent, IsHere, IsRedirected, IsReferred, IsSo, wildcard_of}, ZoneAnswer.{expanded_answer, nxname}}
 use Rattle.domain_answer.specs.ZoneAnswer.{owned_answer, asterisk}
 use Rattle.domain_answer.specs.ZoneAnswer.{asked_type, highest_occluder, wildcard_below, encloser, inside_answer, is_at_parent, missing_answer, name_exists}
+use Rattle.domain_answer.specs.ZoneAnswer.{is_meta_type}
 use Rattle.domain_answer.specs.{ZoneAnswer.{occluded_answer, owns_type, unoccluded_answer, zone_answer}, declared.answer.Answer.Answer}
 use Rattle.domain_answer.specs.declared.answer.Answer.TheVariants.{NotProven, OutsideZone, AtParent, Referral, Redirected}
 use Rattle.domain_answer.specs.declared.answer.Answer.TheVariants.{Has, NoDs, Alias, NxName, NoData, Wildcard}
@@ -42,9 +43,9 @@ fifth : (cut parent asked alias gone : Bool) (referral : Answer) → cut ≡ fal
 fifth cut parent asked alias gone referral a b c d = grind (arith, common_steps)
 
 -- where all is told that is needed, the answer v is proved
-pub all_told : (low parent told lacks : Bool) (v less : Answer) → (low ≡ true → told ≡ true) → (low ≡ true → lacks ≡ false)
-    → cond (not low || parent) v (cond (not told) NotProven (cond lacks less v)) ≡ v
-all_told low parent told lacks v less f g = grind (arith, common_steps)
+pub all_told : (low parent meta told lacks : Bool) (v less : Answer) → (low ≡ true → told ≡ true) → (low ≡ true → lacks ≡ false)
+    → cond (not low || (parent || meta)) v (cond (not told) NotProven (cond lacks less v)) ≡ v
+all_told low parent meta told lacks v less f g = grind (arith, common_steps)
 
 -- ---- names that are the same, and names below each other
 
@@ -246,7 +247,7 @@ module _ (L : List ZoneRecord) (a : Name) where
           choose_by So (cut && not (t == ds)) (Referral (length x)) (cond (owned (asked_type t)) Has (cond cut NoDs (cond (owned cname) Alias last)))
           (λ e.
           let p = and_parts cut (not (t == ds)) e in
-          record { cut = x; count = refl; is_cut = p.0; free = here.free; below = inr (same_itself x x refl, not-true (t == ds) p.1) })
+          record { asks = here.asks; cut = x; count = refl; is_cut = p.0; free = here.free; below = inr (same_itself x x refl, not-true (t == ds) p.1) })
           (λ e. choose_by So (owned (asked_type t)) Has (cond cut NoDs (cond (owned cname) Alias last)) (λ f. (here, f, e))
           (λ f. choose_by So cut NoDs (cond (owned cname) Alias last)
           (λ g. (here, f, g, not-false (t == ds) (ap (λ b. b && not (t == ds)) (sym g) ∙ e)))
@@ -256,13 +257,14 @@ module _ (L : List ZoneRecord) (a : Name) where
       missing_so : name_exists L a x ≡ false → So (missing_answer L a assume (length (encloser L a x)) w t)
       missing_so gone =
           let absent : IsAbsent L a x t (length (encloser L a x)) = record {
+            asks = here.asks;
             missing = and_from (is_unoccluded true L a x) (not (name_exists L a x)) here.free (ap not gone);
             child = here.child;
             count = refl;
           } in
           search (rules, (choose_by So), not-true, not-false) depth 12
 
-    module _ (low : is_at_or_below x a ≡ true) (child : is_at_parent a x t ≡ false) where
+    module _ (asks : is_meta_type t ≡ false) (low : is_at_or_below x a ≡ true) (child : is_at_parent a x t ≡ false) where
       occluded_so : (o : Name) → highest_occluder L a x ≡ Some o → So (occluded_answer L a o)
       occluded_so o e = grind (arith, common_steps, (some_highest x o e), and_parts)
 
@@ -278,8 +280,10 @@ module _ (L : List ZoneRecord) (a : Name) where
 
     -- ---- and where it is so, that is the answer
 
-    at_inside : is_at_or_below x a ≡ true → is_at_parent a x t ≡ false → zone_answer L a assume x t ≡ inside_answer L a assume x t (highest_occluder L a x)
-    at_inside low child = λ j. cond (not (low j)) OutsideZone (cond (child j) AtParent (inside_answer L a assume x t (highest_occluder L a x)))
+    at_inside : is_meta_type t ≡ false → is_at_or_below x a ≡ true → is_at_parent a x t ≡ false
+        → zone_answer L a assume x t ≡ inside_answer L a assume x t (highest_occluder L a x)
+    at_inside asks low child =
+        λ j. cond (not (low j)) OutsideZone (cond (child j) AtParent (cond (asks j) NotProven (inside_answer L a assume x t (highest_occluder L a x))))
 
     -- below a name of the zone there is no apex
     apart : (o : Name) → is_strictly_below x o ≡ true → is_at_or_below o a ≡ true → is_at_parent a x t ≡ false
@@ -287,12 +291,12 @@ module _ (L : List ZoneRecord) (a : Name) where
         let p = and_parts (is_at_or_below x a) (not (same_name x a)) (strictly_trans x o a under low) in
         let other = not-true (same_name x a) p.1 in (λ j. (t == ds) && (other j && nat_lt 0 (length a))) ∙ and_right (t == ds) false refl
 
-    at_highest : (o : Name) → IsHighest x o → zone_answer L a assume x t ≡ occluded_answer L a o
-    at_highest o h =
+    at_highest : is_meta_type t ≡ false → (o : Name) → IsHighest x o → zone_answer L a assume x t ≡ occluded_answer L a o
+    at_highest asks o h =
         let up = free_parts L a o h.free in
         let low = below_strictly x a (strictly_trans x o a h.under up.0) in
         let r = highest_is L a x o h.over up.1 h.under in
-        at_inside low (apart o h.under up.0) ∙ ap (inside_answer L a assume x t) r.1
+        at_inside asks low (apart o h.under up.0) ∙ ap (inside_answer L a assume x t) r.1
         ∙ (λ j. cond (cut_same L a r.0 o r.2 j) (Referral (same_count r.0 o r.2 j)) (Redirected (same_count r.0 o r.2 j)))
 
     at_free : IsHere L a x t → zone_answer L a assume x t ≡ unoccluded_answer L a assume x t
@@ -312,19 +316,19 @@ module _ (L : List ZoneRecord) (a : Name) where
     referred n h =
         elim h.below [
           | inl under ↦
-              at_highest h.cut (record { over = cut_occludes L a h.cut h.is_cut; free = h.free; under = under })
+              at_highest h.asks h.cut (record { over = cut_occludes L a h.cut h.is_cut; free = h.free; under = under })
               ∙ rw h.is_cut (ap Referral (sym h.count))
           | inr same ↦
               let free = free_same x h.cut same.0 ∙ h.free in
               let cut = cut_same L a x h.cut same.0 ∙ h.is_cut in
-              let here : IsHere L a x t = record { free = free; child = λ j. same.1 j && (same_name x a && nat_lt 0 (length a)) } in
+              let here : IsHere L a x t = record { asks = h.asks; free = free; child = λ j. same.1 j && (same_name x a && nat_lt 0 (length a)) } in
               at_existing here (owner_exists x (cut_owns L a x cut) free) ∙ rw (cut, same.1) (ap Referral (same_count x h.cut same.0 ∙ sym h.count))
         ]
 
-    redirected : (n : ℕ) → IsRedirected L a x n → zone_answer L a assume x t ≡ Redirected n
+    redirected : (n : ℕ) → IsRedirected L a x t n → zone_answer L a assume x t ≡ Redirected n
     redirected n h =
         let over = dname_occludes L a h.owner (free_parts L a h.owner h.free).0 h.owns_dname in
-        at_highest h.owner (record { over = over; free = h.free; under = h.below }) ∙ rw h.no_cut (ap Redirected (sym h.count))
+        at_highest h.asks h.owner (record { over = over; free = h.free; under = h.below }) ∙ rw h.no_cut (ap Redirected (sym h.count))
 
     pub so_answer : (v : Answer) → So v → zone_answer L a assume x t ≡ v
     so_answer OutsideZone e = rw e
@@ -345,4 +349,4 @@ module _ (L : List ZoneRecord) (a : Name) where
     so_answer (MayBeUnsigned n) h = absurd h
     so_answer (NoCloserName n) h = absurd h
     so_answer TooManyIterations h = absurd h
-    so_answer NotProven h = absurd h
+    so_answer NotProven h = rw (h.0, h.1, h.2)

@@ -24,7 +24,7 @@ use Rattle.domain_checker.specs.{HashedVerdict.{is_hash_match, is_matched, next_
 use Rattle.domain_answer.proofs.EncloserLemmas.{expanded_alike, owned_alike, closest_last, dname_occludes, exists_low, none_below, wildcard_low, last_above}
 use Rattle.domain_answer.proofs.EncloserLemmas.{asked_bound}
 use Rattle.domain_answer.proofs.EncloserLemmas.{last_count, all_told, below_strictly, cut_occludes, cut_owns, name_of, none_above, strictly_enclosed}
-use Rattle.domain_answer.proofs.{EncloserLemmas.{strictly_other, strictly_same, highest_of, owner_exists}, ChainLemmas.{reading_proved, reading_fits}}
+use Rattle.domain_answer.proofs.{EncloserLemmas.{strictly_other, strictly_same, highest_of, owner_exists}, ChainLemmas.{usable_proved, reading_fits}}
 use Rattle.domain_answer.{proofs.AlikeLemmas.{hashed_proved_alike, read_alike, expansion_alike, proved_expansion_alike}, specs.HashedReading.missing_closer}
 use Rattle.domain_answer.specs.HashedReading.{ExpansionRestsOn, IsExpansionAnswered, IsExpansionRead, closer_name, closer_told, is_expanded, AreAskedAlone}
 use Rattle.domain_answer.specs.HashedReading.{IsHashedAnswered, hashed_proved_answer, needs_wildcard, tells_encloser, tells_wildcard, IsReadOn, IsTold}
@@ -32,10 +32,11 @@ use Rattle.domain_answer.specs.HashedReading.{IsWildcardRead, encloser_answer, f
 use Rattle.domain_answer.specs.HashedReading.{hashed_inside_answer, hashed_wildcard_answer, hashed_exists, hashed_zone_answer, proved_expansion, HasCloserProof}
 use Rattle.domain_answer.specs.{HashedReading.{HasEncloserProof, HashedRestsOn, wildcard_told, hashed_missing_answer, is_of_one_chain}, ZoneAnswer.is_at_parent}
 use Rattle.domain_answer.specs.ZoneAnswer.{wildcard_below, asterisk, encloser, highest_occluder, inside_answer, missing_answer, name_exists, owns_type}
-use Rattle.domain_answer.specs.{ZoneAnswer.{asked_type, nxname, zone_answer, is_of_child, wildcard_types_answer, owned_answer}, declared.answer.Answer.Answer}
+use Rattle.domain_answer.specs.ZoneAnswer.{asked_type, is_meta_type, nxname, zone_answer, is_of_child, wildcard_types_answer, owned_answer}
+use Rattle.domain_answer.specs.{declared.answer.Answer.Answer}
 use Rattle.domain_answer.specs.declared.answer.Answer.TheVariants.{Alias, Has, NoData, NoDs, NxName}
 use Rattle.domain_answer.specs.declared.answer.Answer.TheVariants.{Referral, Redirected, MayBeUnsigned, NoCloserName, NotProven, NameError, TooManyIterations}
-use Rattle.domain_answer.specs.{declared.answer.Answer.TheVariants.{OutsideZone, AtParent}, Reading.{reading, LeavesOutBelowDname, CountsWithin}}
+use Rattle.domain_answer.specs.{declared.answer.Answer.TheVariants.{OutsideZone, AtParent}, Reading.{usable, usable_reading, LeavesOutBelowDname, CountsWithin}}
 use Rattle.domain_answer.specs.Judged.{IsExpansionJudged, IsHashedJudged, IsJudged}
 
 own_never : (a : Name) (e : Encloser) (t n : ℕ) → own_answer a e t ≡ NoCloserName n → ⊥
@@ -159,8 +160,8 @@ module _ (L : List ZoneRecord) (a : Name) (config : ChainConfig) (listed : List 
   missing o = cond (not o && not (tells_wildcard L a config listed x)) (NoCloserName (length en))
       (cond o (MayBeUnsigned (length en)) (hashed_wildcard_answer L a config (length en) w t))
 
-  inside_is : is_at_or_below x a ≡ true → is_at_parent a x t ≡ false → inside ≡ hashed_proved_answer L a config listed x t
-  inside_is low apart = rw (low, apart)
+  inside_is : is_at_or_below x a ≡ true → is_at_parent a x t ≡ false → is_meta_type t ≡ false → inside ≡ hashed_proved_answer L a config listed x t
+  inside_is low apart asks = rw (low, apart, asks)
 
   module _ (links : List HashedLink) (facts : ChainFacts L a config links) (leaves : LeavesOutBelowDname L a config.occlude_below_dname)
       (among : (k : HashedLink) → In k listed → Contains links k) (low : is_at_or_below x a ≡ true) (bound : t < 65536)
@@ -279,14 +280,15 @@ module _ (L : List ZoneRecord) (a : Name) (config : ChainConfig) (listed : List 
 
 -- for records of the chain of any zone
 pub read_proved : ChainsAreKnown → (R : HashedRecords) (x : Name) (t : ℕ) (answer : Answer) → t < 65536
-    → is_at_or_below x R.apex ≡ true → is_at_parent R.apex x t ≡ false → IsHashedRead R x t answer → IsHashedAnswered R x t answer
-read_proved knows R x t answer b low apart read = λ L config links hash parameters leaves chain asked among.
+    → is_at_or_below x R.apex ≡ true → is_at_parent R.apex x t ≡ false → is_meta_type t ≡ false → IsHashedRead R x t answer
+    → IsHashedAnswered R x t answer
+read_proved knows R x t answer b low apart asks read = λ L config links hash parameters leaves chain asked among.
     let some = paired_with_some IsHashedAlike links R.links among in
     let here = read_alike (chain_records R.apex config R.links) some.some some.alike x t answer
     (subst (λ S. IsHashedRead S x t answer) (as_chain R config hash parameters) read) in
     found_inside L R.apex config some.some x t links (knows L R.apex config links chain) leaves
     (λ k i. all_in (Contains links) some.some k some.among i) low b asked here.found here.is answer here.ends
-    ∙ inside_is L R.apex config some.some x t low apart ∙ sym (hashed_proved_alike L R.apex config x t R.links some.some some.alike)
+    ∙ inside_is L R.apex config some.some x t low apart asks ∙ sym (hashed_proved_alike L R.apex config x t R.links some.some some.alike)
 
 -- ---- the records that an answer rests on are there, and what it counts are labels of the name
 
@@ -407,19 +409,20 @@ module _ (R : HashedRecords) (x : Name) (n : ℕ) (answer : Answer) (read : IsEx
 
 -- ---- what records answer by themselves is as it is promised
 
-pub judged : NsecChainsAreKnown → (listed : List Link) (a x : Name) (t : ℕ) → t < 65536 → (answer : Answer) → reading a listed x t ≡ answer
+pub judged : NsecChainsAreKnown → (listed : List Link) (a x : Name) (t : ℕ) → t < 65536 → (answer : Answer) → usable_reading a listed x t ≡ answer
     → IsJudged listed a x t answer
 judged knows listed a x t small answer is = subst (IsJudged listed a x t) is (record {
-  zone = reading_proved knows listed a x t small;
-  proof = (reading_fits a listed x t).0;
+  zone = usable_proved knows listed a x t small;
+  proof = (reading_fits a (usable a listed) x t).0;
   exact = refl;
-  within = (reading_fits a listed x t).1;
+  within = (reading_fits a (usable a listed) x t).1;
 })
 
 module _ (knows : ChainsAreKnown) (R : HashedRecords) (x : Name) (limit : ℕ) (answer : Answer) (few : R.parameters.iterations ≤ limit) where
-  pub hashed_judged : (t : ℕ) → t < 65536 → is_at_or_below x R.apex ≡ true → is_at_parent R.apex x t ≡ false → IsHashedRead R x t answer
-      → IsHashedJudged R x t limit (Ok answer)
-  hashed_judged t small low apart read = grind (arith, common_steps, (read_proved knows R x t answer small low apart read), (read_fits R x t answer read))
+  pub hashed_judged : (t : ℕ) → t < 65536 → is_at_or_below x R.apex ≡ true → is_at_parent R.apex x t ≡ false → is_meta_type t ≡ false
+      → IsHashedRead R x t answer → IsHashedJudged R x t limit (Ok answer)
+  hashed_judged t small low apart asks read =
+      grind (arith, common_steps, (read_proved knows R x t answer small low apart asks read), (read_fits R x t answer read))
 
   pub expansion_judged : (n : ℕ) → is_expanded R.apex x n ≡ true → IsExpansionRead R x n answer → IsExpansionJudged R x n limit (Ok answer)
   expansion_judged n longer read = record {
@@ -468,7 +471,7 @@ pub whole_proves : ChainsAreKnown → (L : List ZoneRecord) (a : Name) (config :
     → hashed_proved_answer L a config links x t ≡ hashed_zone_answer L a config x t
 whole_proves knows L a config links x t leaves chain asked =
     let facts = knows L a config links chain in
-    all_told (is_at_or_below x a) (is_at_parent a x t) (tells_encloser L a config links x)
+    all_told (is_at_or_below x a) (is_at_parent a x t) (is_meta_type t) (tells_encloser L a config links x)
     (needs_wildcard L a config x && not (tells_wildcard L a config links x)) (hashed_zone_answer L a config x t)
     (NoCloserName (length (hashed_encloser L a config x)))
     (λ low. encloser_told facts x low asked) (λ low. needed_told facts x low asked)
@@ -481,16 +484,16 @@ whole_closer knows L a config links x n v chain e alone gone =
     let covered = whole_covers (knows L a config links chain) (closer_name n x) (closer_low a x n e) v alone gone in
     λ j. cond (gone j) NotProven (cond (not (covered j)) NotProven (missing_closer config n))
 
--- ---- a zone says something of each name: records give more answers
+-- ---- a zone says something of each name and type of records: records give more answers
 
-abbrev pub IsOfZone : Answer → Type 0
-IsOfZone (NoCloserName n) = ⊥
-IsOfZone TooManyIterations = ⊥
-IsOfZone NotProven = ⊥
-IsOfZone _ = Unit {0}
+abbrev pub IsOfZone : ℕ → Answer → Type 0
+IsOfZone t (NoCloserName n) = ⊥
+IsOfZone t TooManyIterations = ⊥
+IsOfZone t NotProven = is_meta_type t ≡ true
+IsOfZone t _ = Unit {0}
 
-pub zone_says : (L : List ZoneRecord) (a : Name) (config : ChainConfig) (x : Name) (t : ℕ) → IsOfZone (hashed_zone_answer L a config x t)
-zone_says L a config x t = search (rules, (choose_by IsOfZone)) depth 12
+pub zone_says : (L : List ZoneRecord) (a : Name) (config : ChainConfig) (x : Name) (t : ℕ) → IsOfZone t (hashed_zone_answer L a config x t)
+zone_says L a config x t = search (rules, (choose_by (IsOfZone t))) depth 12
 
 -- ---- a zone whose NSEC3 chain leaves out nothing answers as it does with an NSEC chain
 
@@ -499,12 +502,12 @@ all_kept [] = refl
 all_kept (x ∷ xs) = ap (λ ys. x ∷ ys) (all_kept xs)
 
 -- at a zone cut the chains don't list RRSIG alike, where there is no DS record, and nothing is asked of that
-signed_at : (t : ℕ) (cut : Bool) → (cut && not (t == ds)) ≡ false → ((asked_type t == rrsig) && cut) ≡ false
+pub signed_at : (t : ℕ) (cut : Bool) → (cut && not (t == ds)) ≡ false → ((asked_type t == rrsig) && cut) ≡ false
 unfolding asked_type
 signed_at t cut e = grind (arith, common_steps)
 
 -- RRSIG is of both chains
-asked_apart : (a x : Name) (t : ℕ) → is_of_one_chain a x t ≡ false → is_of_one_chain a x (asked_type t) ≡ false
+pub asked_apart : (a x : Name) (t : ℕ) → is_of_one_chain a x t ≡ false → is_of_one_chain a x (asked_type t) ≡ false
 unfolding asked_type
 asked_apart a x t apart = grind (arith, common_steps)
 
@@ -513,7 +516,7 @@ wildcard_apart a x e t low apart = grind (arith, common_steps)
 
 module _ (L : List ZoneRecord) (a : Name) (config : ChainConfig) where
   -- types that both chains list alike
-  types_alike : (y : Name) (t : ℕ) → is_of_one_chain a y t ≡ false → ((t == rrsig) && is_zone_cut L a y) ≡ false
+  pub types_alike : (y : Name) (t : ℕ) → is_of_one_chain a y t ≡ false → ((t == rrsig) && is_zone_cut L a y) ≡ false
       → nsec3_lists L a config y t ≡ owns_type L a config.assume_dnskeys_will_be_added y t
   types_alike y t apart free = grind (arith, common_steps)
 
@@ -641,4 +644,5 @@ pub zone_alike : (L : List ZoneRecord) (a : Name) (config : ChainConfig) → is_
     → IgnoresSpelling L a config → name_exists L a a ≡ true → (x : Name) (t : ℕ) → is_of_one_chain a x t ≡ false
     → hashed_zone_answer L a config x t ≡ zone_answer L a config.assume_dnskeys_will_be_added x t
 zone_alike L a config out leaves alike apex x t apart =
-    inside_alone (is_at_or_below x a) (is_at_parent a x t) _ _ (λ low. zone_inside L a config x t out leaves apex low apart alike)
+    inside_alone (is_at_or_below x a) (is_at_parent a x t) _ _
+    (λ low. ap (cond (is_meta_type t) NotProven) (zone_inside L a config x t out leaves apex low apart alike))

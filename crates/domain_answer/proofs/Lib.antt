@@ -3,3 +3,4 @@ pub mod EncloserLemmas
 pub mod AlikeLemmas
 pub mod HashedAnswerLemmas
 pub mod JudgeLemmas
+pub mod OptOutLemmas

@@ -10,9 +10,10 @@ use Rattle.domain_checker.specs.HashedVerdict.{is_below_chain_cut, IsFirstRefusa
 use Rattle.domain_checker.specs.{HashedVerdict.{first_cover, first_match, chain_records}, Verdict.{closest_encloser, IsHashedAlike, IsPairedIn}}
 use Rattle.domain_checker.specs.HashedReading.{found_cover, found_match, Encloser, encloser_is_cut, IsEncloser, IsFoundEncloser, IsLookedUp}
 use Rattle.domain_checker.specs.declared.nsec3.Nsec3Found.{Nsec3Found}
-use Rattle.domain_answer.specs.ZoneAnswer.{expanded_answer, owned_answer, types_answer, wildcard_types_answer, is_at_parent, wildcard_below}
+use Rattle.domain_answer.specs.ZoneAnswer.{expanded_answer, owned_answer, types_answer, wildcard_types_answer, is_at_parent, is_meta_type, wildcard_below}
 use Rattle.domain_answer.specs.declared.answer.Answer.{Answer, TheVariants.{OutsideZone, AtParent, Referral, Redirected, NameError, MayBeUnsigned}}
 use Rattle.domain_answer.specs.declared.answer.Answer.TheVariants.{NoCloserName, NotProven, Wildcard, WildcardAlias, WildcardNoData, TooManyIterations}
+use Rattle.domain_answer.specs.declared.answer.Answer.TheVariants.{Has, NoDs, Alias, NxName, NoData}
 use Rattle.domain_answer.specs.Reading.{needs_no_records, LeavesOutBelowDname}
 use Rattle.domain_octets.specs.Octets.{Octets}
 use Rattle.domain_bitmap.specs.Blocks.{contains_type}
@@ -57,7 +58,20 @@ hashed_inside_answer L a config x t =
 abbrev pub hashed_zone_answer : List ZoneRecord → Name → ChainConfig → Name → ℕ → Answer
 hashed_zone_answer L a config x t =
     if not (is_at_or_below x a) then OutsideZone else
-    (if is_at_parent a x t then AtParent else hashed_inside_answer L a config x t)
+    (if is_at_parent a x t then AtParent else
+    (if is_meta_type t then NotProven else hashed_inside_answer L a config x t))
+
+-- the zone does not say whether x exists: it is not a name of the chain, and below no zone cut of the
+-- chain and no owner of a DNAME record; with opt-out it may be an unsigned delegation, or below one,
+-- and its closest encloser has n labels
+pub record IsLeftOpen (L : List ZoneRecord) (a : Name) (config : ChainConfig) (x : Name) (t n : ℕ)
+    : Type 0 where
+  pub asks : needs_no_records a x t ≡ false
+  pub uncut : is_below_chain_cut L a config x ≡ false
+  pub gone : hashed_exists L a config x ≡ false
+  pub undirected : nsec3_lists L a config (hashed_encloser L a config x) dname ≡ false
+  pub opt_out : is_opt_out config.flags ≡ true
+  pub count : n ≡ length (hashed_encloser L a config x)
 
 -- a type that only one of the two chains of a zone lists for x, whatever x owns: NSEC, and at the
 -- apex NSEC3PARAM
@@ -243,7 +257,11 @@ HashedRestsOn R x (MayBeUnsigned n) = HasCloserProof R x n
 HashedRestsOn R x (NoCloserName n) = HasCloserProof R x n
 HashedRestsOn R x TooManyIterations = Unit {0}
 HashedRestsOn R x NotProven = Unit {0}
-HashedRestsOn R x _ = is_matched R x ≡ true
+HashedRestsOn R x Has = is_matched R x ≡ true
+HashedRestsOn R x NoDs = is_matched R x ≡ true
+HashedRestsOn R x Alias = is_matched R x ≡ true
+HashedRestsOn R x NxName = is_matched R x ≡ true
+HashedRestsOn R x NoData = is_matched R x ≡ true
 
 -- ---- What NSEC3 records answer for a name x whose records were expanded from the wildcard right
 -- below its last n labels (RFC 5155, section 8.8; RFC 4035, section 5.3.4); a is the apex. The

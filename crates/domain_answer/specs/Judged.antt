@@ -11,19 +11,21 @@ use Rattle.domain_answer.specs.HashedReading.{found_answer, hashed_finding_of, A
 use Rattle.domain_checker.specs.{HashedIndex.IsPast, HashedVerdict.HashedRecords}
 use Rattle.domain_answer.specs.HashedReading.{closer_name, is_expanded, ExpansionRestsOn, IsExpansionAnswered, IsExpansionRead, HashedRestsOn, IsHashedAnswered}
 use Rattle.domain_answer.specs.{HashedReading.{IsFirstOfRefusals, IsHashedRead}, Reading.{AreFound, IsWildcardWitness, name_answer}}
-use Rattle.domain_answer.specs.Reading.{needs_no_records, CountsWithin, IsAnswered, RestsOn, reading}
-use Rattle.domain_answer.specs.{ZoneAnswer.is_at_parent, declared.answer.Answer.{Answer, TheVariants.{OutsideZone, AtParent, TooManyIterations, NotProven}}}
+use Rattle.domain_answer.specs.Reading.{needs_no_records, CountsWithin, IsAnswered, RestsOn, usable, usable_reading}
+use Rattle.domain_answer.specs.ZoneAnswer.{is_at_parent, is_meta_type}
+use Rattle.domain_answer.specs.declared.{answer.Answer.{Answer, TheVariants.{OutsideZone, AtParent, TooManyIterations, NotProven}}}
 use Rattle.domain_answer.specs.declared.limits.Nsec3Limits.{Nsec3Limits}
 
 -- the contract of what a list of NSEC records answers to a question about x and t
 pub record IsJudged (listed : List Link) (a x : Name) (t : ℕ) (answer : Answer) : Type 0 where
   -- for records of the chain of any zone: the answer of that zone, as far as they prove it
   pub zone : IsAnswered listed a x t answer
-  -- for any list at all: the records that the answer rests on are in the list
-  pub proof : RestsOn listed a x answer
-  -- the answer is what the first match says, or else the first cover, of the name and, if that does
-  -- not exist, of the wildcard
-  pub exact : answer ≡ reading a listed x t
+  -- for any list at all: the records that the answer rests on are in the list, and a zone with this
+  -- apex can have each of them
+  pub proof : RestsOn (usable a listed) a x answer
+  -- the answer is what the first such match says, or else the first such cover, of the name and, if
+  -- that does not exist, of the wildcard
+  pub exact : answer ≡ usable_reading a listed x t
   -- and the labels that the answer counts are labels of the name; a closest encloser has fewer
   pub within : CountsWithin (length x) answer
 
@@ -32,9 +34,9 @@ pub record IsJudged (listed : List Link) (a x : Name) (t : ℕ) (answer : Answer
 pub record AreNsecWitnesses (listed : List Link) (a x : Name) (answer : Answer)
     (of_name : Option Link × Option Link) (of_wildcard : Option (Option Link × Option Link))
     : Type 0 where
-  pub name : is_at_or_below x a ≡ true → AreFound a listed x of_name
+  pub name : is_at_or_below x a ≡ true → AreFound a (usable a listed) x of_name
   pub outside : is_at_or_below x a ≡ false → of_name ≡ (None, None)
-  pub wildcard : IsWildcardWitness a listed x (name_answer answer) of_wildcard
+  pub wildcard : IsWildcardWitness a (usable a listed) x (name_answer answer) of_wildcard
 
 -- the contract of what NSEC3 records answer with at most `limit` iterations, or of the error in its
 -- place
@@ -43,6 +45,8 @@ pub record IsHashedJudged (R : HashedRecords) (x : Name) (t limit : ℕ)
   pub outside : is_at_or_below x R.apex ≡ false → result ≡ Ok OutsideZone
   pub parent : is_at_or_below x R.apex ≡ true → is_at_parent R.apex x t ≡ true
       → result ≡ Ok AtParent
+  pub meta : is_at_or_below x R.apex ≡ true → is_at_parent R.apex x t ≡ false
+      → is_meta_type t ≡ true → result ≡ Ok NotProven
   pub iterations : needs_no_records R.apex x t ≡ false → limit < R.parameters.iterations
       → result ≡ Ok TooManyIterations
   -- for records of the chain of any zone, within the limit: the answer of that zone, as far as they

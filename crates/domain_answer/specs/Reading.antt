@@ -1,7 +1,7 @@
 -- What NSEC records alone answer, and what they prove of what the zone says.
 use Rattle.std.specs.Prelude.{◌≡◌, List, Option, Some, None, IfSome, length, ℕ, Bool, not, ◌<◌, ◌&&◌, ◌||◌, if◌then◌else◌, true, ◌≤◌, All, false, ◌==◌, ◌⊎◌}
-use Rattle.std.specs.{List.find, Option.option_map}
-use Rattle.domain_names.specs.Name.{Name, is_at_or_below, is_strictly_below, last_labels, same_name}
+use Rattle.std.specs.{List.find, Option.option_map, Prelude.filter}
+use Rattle.domain_names.specs.Name.{before, Name, is_at_or_below, is_strictly_below, last_labels, same_name}
 use Rattle.domain_zone.specs.{Enclosers.{longer, shared}, Zone.{ZoneRecord, OwnersNeverDescend, is_unoccluded, unoccluded_owners, has_type, is_zone_cut}}
 use Rattle.domain_zone.specs.Zone.{records_of}
 use Rattle.domain_nsec.specs.{Chain.{Link, IsChain, as_link}, declared.config.GenerateNsecConfig.GenerateNsecConfig}
@@ -10,12 +10,32 @@ use Rattle.domain_answer.specs.declared.{found.{NsecCover.NsecCover, NsecFound.{
 use Rattle.domain_answer.specs.declared.answer.Answer.TheVariants.{OutsideZone, AtParent, Referral, Redirected, NoData, Wildcard, WildcardAlias, WildcardNoData}
 use Rattle.domain_answer.specs.declared.answer.Answer.TheVariants.{NameError, NoCloserName, NotProven, MayBeUnsigned, TooManyIterations}
 use Rattle.domain_answer.specs.declared.answer.Answer.TheVariants.{Has, NoDs, Alias, NxName}
-use Rattle.domain_answer.specs.{declared.answer.NameAnswer.{NameAnswer, TheVariants.{Given, Absent}}, ZoneAnswer.{types_answer, wildcard_types_answer}}
-use Rattle.domain_answer.specs.ZoneAnswer.{asked_type, is_at_parent, nxname, wildcard_below, encloser, name_exists, zone_answer, owns_type}
+use Rattle.domain_answer.specs.{declared.answer.NameAnswer.{NameAnswer, TheVariants.{Given, Absent}}, ZoneAnswer.{is_meta_type, types_answer}}
+use Rattle.domain_answer.specs.ZoneAnswer.{wildcard_types_answer, asked_type, is_at_parent, is_of_child, nxname}
+use Rattle.domain_answer.specs.ZoneAnswer.{wildcard_below, encloser, name_exists, zone_answer, owns_type}
 use Rattle.domain_bitmap.specs.Blocks.{contains_type}
 use Rattle.domain_base.specs.Types.{dname, cname, ds}
 
--- ---- What one pass over NSEC records finds for a name; a is the apex.
+-- ---- Which NSEC records count; a is the apex.
+
+-- a zone with this apex can have the record: the next name is after the owner or is the apex (RFC
+-- 4034, section 4.1.1), and the record is not from the apex of a child zone (RFC 6840, section 4.4)
+abbrev pub is_usable : Name → Link → Bool
+is_usable a k =
+    (before k.owner k.next || same_name k.next a) && not (is_of_child (is_at_cut a k) k.bits)
+
+-- it counts and its owner is x; it counts and covers x
+abbrev pub is_usable_match : Name → Name → Link → Bool
+is_usable_match a x k = is_match a x k && is_usable a k
+
+abbrev pub is_usable_cover : Name → Name → Link → Bool
+is_usable_cover a x k = is_cover a x k && is_usable a k
+
+-- the records of the list that count
+abbrev pub usable : Name → List Link → List Link
+usable a listed = filter (is_usable a) listed
+
+-- ---- What one pass over NSEC records finds for a name.
 
 -- the covering record
 abbrev pub cover_link : {O N : Type 0} → (N → Name) → NsecCover O N → Link
@@ -117,7 +137,12 @@ listed_answer a listed x t =
 abbrev pub reading : Name → List Link → Name → ℕ → Answer
 reading a listed x t =
     if not (is_at_or_below x a) then OutsideZone else
-    (if is_at_parent a x t then AtParent else listed_answer a listed x t)
+    (if is_at_parent a x t then AtParent else
+    (if is_meta_type t then NotProven else listed_answer a listed x t))
+
+-- what the records of the list that count say of any name
+abbrev pub usable_reading : Name → List Link → Name → ℕ → Answer
+usable_reading a listed x t = reading a (usable a listed) x t
 
 -- ---- before a wildcard is looked up
 
@@ -150,7 +175,7 @@ IsWildcardWitness a listed x (Absent n) (Some f) =
 
 -- the zone's answer follows from the name and the type alone
 abbrev pub needs_no_records : Name → Name → ℕ → Bool
-needs_no_records a x t = not (is_at_or_below x a) || is_at_parent a x t
+needs_no_records a x t = not (is_at_or_below x a) || (is_at_parent a x t || is_meta_type t)
 
 -- x is not occluded and does not exist: the wildcard below its closest encloser decides
 abbrev pub is_missing : List ZoneRecord → Name → Name → Bool
@@ -193,14 +218,21 @@ HasBothProofs listed a x n =
 abbrev pub RestsOn : List Link → Name → Name → Answer → Type 0
 RestsOn listed a x OutsideZone = Unit {0}
 RestsOn listed a x AtParent = Unit {0}
+RestsOn listed a x (Referral n) = HasProof listed a x
+RestsOn listed a x (Redirected n) = HasProof listed a x
+RestsOn listed a x Has = HasProof listed a x
+RestsOn listed a x NoDs = HasProof listed a x
+RestsOn listed a x Alias = HasProof listed a x
+RestsOn listed a x NxName = HasProof listed a x
+RestsOn listed a x NoData = HasProof listed a x
 RestsOn listed a x (Wildcard n) = HasBothProofs listed a x n
 RestsOn listed a x (WildcardAlias n) = HasBothProofs listed a x n
 RestsOn listed a x (WildcardNoData n) = HasBothProofs listed a x n
 RestsOn listed a x (NameError n) = HasBothProofs listed a x n
+RestsOn listed a x (NoCloserName n) = HasProof listed a x
 RestsOn listed a x (MayBeUnsigned n) = ⊥
 RestsOn listed a x TooManyIterations = ⊥
 RestsOn listed a x NotProven = Unit {0}
-RestsOn listed a x _ = HasProof listed a x
 
 -- the labels that an answer counts are labels of a name that has n; a closest encloser has fewer
 abbrev pub CountsWithin : ℕ → Answer → Type 0
@@ -220,6 +252,7 @@ CountsWithin n _ = Unit {0}
 -- a zone cut of n labels is not occluded, and x is strictly below it, or is the cut itself and the
 -- type is not DS
 pub record IsReferred (L : List ZoneRecord) (a x : Name) (t n : ℕ) : Type 0 where
+  pub asks : is_meta_type t ≡ false
   pub cut : Name
   pub count : n ≡ length cut
   pub is_cut : is_zone_cut L a cut ≡ true
@@ -228,7 +261,8 @@ pub record IsReferred (L : List ZoneRecord) (a x : Name) (t n : ℕ) : Type 0 wh
 
 -- an owner of a DNAME record has n labels, is no zone cut and is not occluded, and x is strictly
 -- below it
-pub record IsRedirected (L : List ZoneRecord) (a x : Name) (n : ℕ) : Type 0 where
+pub record IsRedirected (L : List ZoneRecord) (a x : Name) (t n : ℕ) : Type 0 where
+  pub asks : is_meta_type t ≡ false
   pub owner : Name
   pub count : n ≡ length owner
   pub no_cut : is_zone_cut L a owner ≡ false
@@ -238,11 +272,13 @@ pub record IsRedirected (L : List ZoneRecord) (a x : Name) (n : ℕ) : Type 0 wh
 
 -- x is not occluded, and the question is not one that the parent zone answers
 pub record IsHere (L : List ZoneRecord) (a x : Name) (t : ℕ) : Type 0 where
+  pub asks : is_meta_type t ≡ false
   pub free : is_unoccluded true L a x ≡ true
   pub child : is_at_parent a x t ≡ false
 
 -- x does not exist, and its closest encloser has n labels
 pub record IsAbsent (L : List ZoneRecord) (a x : Name) (t n : ℕ) : Type 0 where
+  pub asks : is_meta_type t ≡ false
   pub missing : is_missing L a x ≡ true
   pub child : is_at_parent a x t ≡ false
   pub count : n ≡ length (encloser L a x)
@@ -261,7 +297,7 @@ abbrev pub IsSo : List ZoneRecord → Name → Bool → Name → ℕ → Answer 
 IsSo L a assume x t OutsideZone = is_at_or_below x a ≡ false
 IsSo L a assume x t AtParent = is_at_parent a x t ≡ true
 IsSo L a assume x t (Referral n) = IsReferred L a x t n
-IsSo L a assume x t (Redirected n) = IsRedirected L a x n
+IsSo L a assume x t (Redirected n) = IsRedirected L a x t n
 IsSo L a assume x t Has =
     IsHere L a x t × (owns_type L a assume x (asked_type t) ≡ true)
     × ((is_zone_cut L a x && not (t == ds)) ≡ false)
@@ -291,4 +327,6 @@ IsSo L a assume x t (WildcardNoData n) =
     × (owns_type L a assume (wildcard_of L a x) cname ≡ false)
 IsSo L a assume x t (NameError n) =
     IsAbsent L a x t n × (name_exists L a (wildcard_of L a x) ≡ false)
+IsSo L a assume x t NotProven =
+    (is_at_or_below x a ≡ true) × (is_at_parent a x t ≡ false) × (is_meta_type t ≡ true)
 IsSo L a assume x t _ = ⊥

@@ -1,5 +1,6 @@
 -- What a zone says of a name and a type, by the types that names own.
-use Rattle.std.specs.{Prelude.{ℕ, Bool, not, ◌&&◌, ◌||◌, ◌==◌, if◌then◌else◌, true, List, [], ◌∷◌, Option, Some, None, length, nat_lt}, Option.option_or}
+use Rattle.std.specs.Prelude.{ℕ, Bool, not, ◌&&◌, ◌||◌, ◌==◌, if◌then◌else◌, true, List, [], ◌∷◌, Option, Some, None, length}
+use Rattle.std.specs.{Prelude.{nat_le, nat_lt}, Option.option_or}
 use Rattle.domain_octets.specs.Octets.{Octets}
 use Rattle.domain_base.specs.Types.{cname, ds, rrsig, soa}
 use Rattle.domain_bitmap.specs.Blocks.{contains_type}
@@ -16,6 +17,11 @@ use Rattle.domain_checker.specs.Verdict.{closest_encloser}
 -- owns records and is no zone cut owns signatures
 abbrev pub any : ℕ
 any = 255
+
+-- type 0, OPT, and the types that only questions and messages have, except ANY: no record of a zone
+-- has such a type, so a record that does not list it denies nothing (RFC 6895, section 3.1)
+unfoldable pub is_meta_type : ℕ → Bool
+is_meta_type t = (t == 0) || ((t == 41) || (nat_le 128 t && nat_lt t any))
 
 -- the type that decides whether a name owns what is asked for
 unfoldable pub asked_type : ℕ → ℕ
@@ -113,9 +119,10 @@ inside_answer L a assume x t (Some o) = occluded_answer L a o
 abbrev pub is_at_parent : Name → Name → ℕ → Bool
 is_at_parent a x t = (t == ds) && (same_name x a && nat_lt 0 (length a))
 
--- the first case that holds
+-- the first case that holds; a question for a type that no record has is none about the zone
 abbrev pub zone_answer : List ZoneRecord → Name → Bool → Name → ℕ → Answer
 zone_answer L a assume x t =
     if not (is_at_or_below x a) then OutsideZone else
     (if is_at_parent a x t then AtParent else
-    inside_answer L a assume x t (highest_occluder L a x))
+    (if is_meta_type t then NotProven else
+    inside_answer L a assume x t (highest_occluder L a x)))

@@ -57,7 +57,8 @@ pub enum Answer {
     /// The NSEC3 chain hashes names with more iterations than allowed, so the records were not used
     /// (RFC 9276, section 3.2).
     TooManyIterations,
-    /// The records do not prove what the zone says.
+    /// The records do not prove what the zone says, or the type is one that no record of a zone
+    /// has, such as AXFR or OPT (RFC 6895, section 3.1).
     NotProven,
 }
 

@@ -13,6 +13,7 @@ ghost use Rattle.domain_hasher.specs.declared.error.Nsec3HashError.TheVariants a
 use crate::expansion::{closer_told, is_expanded};
 use crate::nsec::is_at_parent;
 use crate::nsec3::{found_answer, wildcard_told};
+use crate::of_types::is_meta_type;
 use crate::wildcard::wildcard_below;
 use crate::{Answer, Nsec3Limits};
 use domain_base::{MAX_NAME, Rtype, ToName};
@@ -120,6 +121,9 @@ pub fn judge_nsec3_with_witnesses<'a, O: Octets, N: ToName, M: ToName, H: Nsec3H
     }
     if is_at_parent(apex, name, rtype) {
         return Ok(Some(without_records(Answer::AtParent)));
+    }
+    if is_meta_type(rtype) {
+        return Ok(Some(without_records(Answer::NotProven)));
     }
     if index.iterations() > limits.iterations {
         return Ok(Some(without_records(Answer::TooManyIterations)));

@@ -6,7 +6,7 @@
 //! `judge_nsec` takes records of an NSEC chain, any of them, in any order, and no zone. It returns
 //! what the zone itself answers, or that these records do not prove it. `specs/ZoneAnswer` defines
 //! what a zone answers, over its records alone. `specs/Reading` defines what records of its chain
-//! say, and what they prove.
+//! say, and what they prove. A record that no zone with the apex can have is ignored.
 //!
 //! `judge_nsec3` takes records of an NSEC3 chain and the NSEC3PARAM record in the same way, and a
 //! hasher for the hashes of names. `specs/HashedReading` defines what such a zone answers, what
@@ -39,8 +39,9 @@ pub use judge::{
 pub use limits::Nsec3Limits;
 pub use needs::{Needs, needs_of, needs_wildcard_record, wildcard_count};
 pub use nsec::{
-    NsecJudgement, is_at_parent, judge_name, judge_nsec, judge_nsec_with_witnesses, judge_wildcard,
+    NsecJudgement, is_at_parent, judge_found_wildcard, judge_name, judge_nsec,
+    judge_nsec_with_witnesses, judge_wildcard,
 };
 pub use nsec3::{encloser_answer, judge_nsec3};
-pub use of_types::{types_answer, wildcard_types_answer};
+pub use of_types::{is_meta_type, types_answer, wildcard_types_answer};
 pub use wildcard::wildcard_of;

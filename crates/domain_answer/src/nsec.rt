@@ -3,12 +3,13 @@ ghost use Rattle.std.specs.{Prelude.{◌≡◌, List, true}, Option.option_map};
 ghost use Rattle.domain_names.specs.Name.{is_at_or_below};
 ghost use Rattle.domain_nsec.specs.Chain.{as_link, links_of, Link};
 ghost use Rattle.domain_answer.specs.{Judged.{AreNsecWitnesses, IsJudged}, ZoneAnswer.is_at_parent};
-ghost use Rattle.domain_answer.specs.Reading.{finding_of, found_cover, found_match, reading, tells_occluded};
+ghost use Rattle.domain_answer.specs.Reading.{finding_of, found_cover, found_match, reading};
+ghost use Rattle.domain_answer.specs.Reading.{tells_occluded, usable};
 ghost use Rattle.domain_answer.specs.Reading.{wildcard_answer, wildcard_both, IsCovered, IsFound};
 ghost use Rattle.domain_answer.specs.Reading.{IsNameAnswer};
 
 use crate::found::{NsecFound, find_nsec};
-use crate::of_types::{types_answer, wildcard_types_answer};
+use crate::of_types::{is_meta_type, types_answer, wildcard_types_answer};
 use crate::wildcard::wildcard_below;
 use crate::{Answer, NameAnswer};
 use domain_base::{MAX_NAME, ParsedName, Rtype, ToName};
@@ -40,8 +41,8 @@ fn tells_occluded<A: ToName, O: Octets, N: ToName, M: ToName>(
 }
 
 /// Returns what records say of a name that does not exist, whose closest encloser has `count`
-/// labels, given what was found for the wildcard right below the closest encloser.
-fn wildcard_told<A: ToName, O: Octets, N: ToName>(
+/// labels, given what `find_nsec` found for the wildcard right below the closest encloser.
+pub fn judge_found_wildcard<A: ToName, O: Octets, N: ToName>(
     apex: &A,
     found: &NsecFound<'_, O, N>,
     count: usize,
@@ -81,10 +82,10 @@ pub fn judge_wildcard<A: ToName, O: Octets, N: ToName>(
     wildcard: &ParsedName<'_>,
     rtype: Rtype,
 ) -> Answer
-    ensures { result ≡ wildcard_answer (A.labels apex.now) (links_of N.labels chain.now) count
-        wildcard.now rtype }
+    ensures { result ≡ wildcard_answer (A.labels apex.now)
+        (usable (A.labels apex.now) (links_of N.labels chain.now)) count wildcard.now rtype }
 {
-    wildcard_told(
+    judge_found_wildcard(
         apex,
         &find_nsec(apex, chain, wildcard),
         count,
@@ -109,6 +110,9 @@ fn name_told<A: ToName, O: Octets, N: ToName, M: ToName>(
 {
     if is_at_parent(apex, name, rtype) {
         return NameAnswer::Given(Answer::AtParent);
+    }
+    if is_meta_type(rtype) {
+        return NameAnswer::Given(Answer::NotProven);
     }
     let cover = match found {
         NsecFound::Match(listed) => {
@@ -144,8 +148,9 @@ pub fn judge_name<A: ToName, O: Octets, N: ToName, M: ToName>(
     name: &M,
     rtype: Rtype,
 ) -> NameAnswer
-    ensures { IsNameAnswer (reading (A.labels apex.now) (links_of N.labels chain.now)
-        (M.labels name.now) rtype) (A.labels apex.now) (links_of N.labels chain.now)
+    ensures { IsNameAnswer (reading (A.labels apex.now)
+        (usable (A.labels apex.now) (links_of N.labels chain.now)) (M.labels name.now) rtype)
+        (A.labels apex.now) (usable (A.labels apex.now) (links_of N.labels chain.now))
         (M.labels name.now) rtype result }
 {
     if !name.ends_with(apex) {
@@ -206,7 +211,7 @@ pub fn judge_nsec_with_witnesses<'a, A: ToName, O: Octets, N: ToName, M: ToName>
     let wildcard = wildcard_below(&mut buffer, name, count);
     let found = find_nsec(apex, chain, &wildcard);
     NsecJudgement {
-        answer: wildcard_told(apex, &found, count, &wildcard, rtype),
+        answer: judge_found_wildcard(apex, &found, count, &wildcard, rtype),
         of_name,
         of_wildcard: Some(found),
     }
@@ -217,14 +222,15 @@ pub fn judge_nsec_with_witnesses<'a, A: ToName, O: Octets, N: ToName, M: ToName>
 /// most twice.
 ///
 /// The records may be any of the zone's chain, in any order, with repeats. A record is ignored if
-/// its owner or next name is not at or below the apex. The first record that matches a name counts
-/// or, if none matches, the first that covers it.
+/// its owner or next name is not at or below the apex, or if no zone with this apex can have it:
+/// its next name is neither after its owner nor the apex (RFC 4034, section 4.1.1), or it is from a
+/// child zone, at a zone cut with SOA among its types (RFC 6840, section 4.4). The first other
+/// record that matches a name counts or, if none matches, the first that covers it.
 ///
 /// If a record proves that the name does not exist, the wildcard below its closest encloser is
 /// looked up in the same way; without a record of it the answer is `NoCloserName`. If no record
-/// matches or covers the name, the answer is `NotProven`. It is `NotProven` too if the matching
-/// record is at a zone cut and lists SOA: such a record is from the child zone, at the child's apex
-/// (RFC 6840, section 4.4).
+/// matches or covers the name, the answer is `NotProven`. It is `NotProven` too for a type that no
+/// record of a zone has (`is_meta_type`): a record that does not list it denies nothing.
 ///
 /// The chain must leave out the names below an owner of a DNAME record, or the zone must have none:
 /// such names are no names of the zone (RFC 6672, section 2.4). Signatures are not verified.

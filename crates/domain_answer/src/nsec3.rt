@@ -10,7 +10,7 @@ ghost use Rattle.domain_hasher.specs.declared.error.Nsec3HashError.TheVariants a
 
 use crate::Answer;
 use crate::nsec::is_at_parent;
-use crate::of_types::{types_answer, wildcard_types_answer};
+use crate::of_types::{is_meta_type, types_answer, wildcard_types_answer};
 use crate::wildcard::wildcard_below;
 use domain_base::{MAX_NAME, Rtype, ToName};
 use domain_bitmap::RtypeBitmap;
@@ -154,7 +154,8 @@ fn read_wildcard<A: ToName, O: Octets, N: ToName, M: ToName, H: Nsec3Hasher>(
 ///
 /// If nothing is matched, or a cover is needed and missing, the answer is `NotProven`. It is
 /// `NotProven` too if the record of the name is at a zone cut and lists SOA, as that of a child's
-/// apex does (RFC 5155, section 8.9). No name is hashed twice, except the wildcard if it is the
+/// apex does (RFC 5155, section 8.9), and for a type that no record of a zone has (`is_meta_type`).
+/// For such a type nothing is hashed. No name is hashed twice, except the wildcard if it is the
 /// next closer name itself. For each hash the records are read once. Allocates nothing but the
 /// hasher's digests, one at a time.
 ///
@@ -186,6 +187,9 @@ pub fn judge_nsec3<A: ToName, O: Octets, N: ToName, M: ToName, H: Nsec3Hasher>(
     }
     if is_at_parent(apex, name, rtype) {
         return Ok(Answer::AtParent);
+    }
+    if is_meta_type(rtype) {
+        return Ok(Answer::NotProven);
     }
     if records.nsec3param.data().iterations() > limit {
         return Ok(Answer::TooManyIterations);

@@ -1,6 +1,6 @@
 //! What the types that a record lists say of the name that owns it.
 ghost use Rattle.std.specs.Prelude.{◌≡◌};
-ghost use Rattle.domain_answer.specs.ZoneAnswer.{asked_type, types_answer, wildcard_types_answer};
+ghost use Rattle.domain_answer.specs.ZoneAnswer.{asked_type, is_meta_type, types_answer, wildcard_types_answer};
 
 use crate::Answer;
 use domain_base::Rtype;
@@ -13,6 +13,20 @@ const ANY: u16 = 255;
 /// The number of the type NXNAME, which the record of a name lists if the name does not exist (RFC
 /// 9824, section 3).
 const NXNAME: u16 = 128;
+
+/// The number of the type OPT, which only messages have (RFC 6891).
+const OPT: u16 = 41;
+
+/// Returns whether no record of a zone has the type: it is type 0, OPT, or a Q or Meta-TYPE from
+/// 128 to 254, such as AXFR (RFC 6895, section 3.1). ANY is none of these here, since it asks for
+/// records.
+#[tactic(auto, unfolding(crate::specs::ZoneAnswer::is_meta_type))]
+pub fn is_meta_type(rtype: Rtype) -> bool
+    ensures { result ≡ is_meta_type rtype }
+{
+    let number = rtype.to_int();
+    number == 0 || number == OPT || (number >= NXNAME && number < ANY)
+}
 
 /// Returns the type that decides whether a name owns what is asked for: RRSIG for ANY, since each
 /// name that owns records, except a zone cut, owns signatures.

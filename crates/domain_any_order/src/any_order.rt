@@ -1,9 +1,10 @@
 //! Chains of records that come in any order and are sorted first.
 ghost use Rattle.std.specs.Prelude.{IfErr, IfOk};
 ghost use Rattle.domain_records.specs.Order.{IsOneClass};
-ghost use Rattle.domain_nsec.specs.Chain.{links_of};
+ghost use Rattle.domain_nsec.specs.Chain.{links_of, IsFaultless};
+ghost use Rattle.domain_nsec3.specs.Chain.{IsFaultless as IsHashedFaultless};
 ghost use Rattle.domain_nsec3.specs.View.{as_param_record, config_of, hashed_links_of};
-ghost use Rattle.domain_any_order.specs.AnyOrder.{HasNoChain, HasNoHashedChain, HasNoSet, IsChainOf, IsHashedChainOf, Sorts, seen};
+ghost use Rattle.domain_any_order.specs.AnyOrder.{HasNoChain, HasNoHashedChain, HasNoSet, IsChainOf, IsHashedChainOf, OfZone, Sorts, seen};
 
 use crate::error::ChainError;
 use crate::laws::sorting_keeps_classes_and_records;
@@ -67,6 +68,11 @@ where
     O::Builder: GrowingBuilder,
     ensures ok { IfOk result (λ nsecs. IsChainOf (seen N.labels D.rtype D.minimum D.canonical_cmp)
         records.items (N.labels apex.now) config.now (links_of N.labels nsecs.items)) }
+
+    // The zone of the sorted records has no fault.
+    ensures faultless { IfOk result (λ nsecs. OfZone
+        (seen N.labels D.rtype D.minimum D.canonical_cmp) records.items
+        (λ L. IsFaultless L (N.labels apex.now) config.now)) }
     ensures err { IfErr result (HasNoChain (seen N.labels D.rtype D.minimum D.canonical_cmp)
         records.items (N.labels apex.now) config.now) }
 {
@@ -109,6 +115,11 @@ where
         (seen N.labels D.rtype D.minimum D.canonical_cmp) records.items (N.labels apex.now)
         (config_of (H.answer hasher.now) config.now) config.now.nsec3param_ttl_mode
         (hashed_links_of N.labels made.nsec3s.items) (as_param_record N.labels made.nsec3param)) }
+
+    // The zone of the sorted records has no fault.
+    ensures faultless { IfOk result (λ made. OfZone
+        (seen N.labels D.rtype D.minimum D.canonical_cmp) records.items (λ L. IsHashedFaultless L
+        (N.labels apex.now) (config_of (H.answer hasher.now) config.now))) }
     ensures err { IfErr result (HasNoHashedChain (seen N.labels D.rtype D.minimum D.canonical_cmp)
         records.items (N.labels apex.now) (config_of (H.answer hasher.now) config.now)) }
 {

@@ -24,12 +24,13 @@ use Rattle.domain_checker.specs.HashedVerdict.{owner_hash}
 use Rattle.domain_answer.proofs.{HashedAnswerLemmas.{read_proved, IsOfZone, encloser_told as whole_tells, whole_proves, zone_says}, EncloserLemmas.closest_last}
 use Rattle.domain_answer.{proofs.EncloserLemmas.{exists_low, strictly_other}, specs.HashedReading.{AreAskedAlone, hashed_proved_answer, needs_wildcard}}
 use Rattle.domain_answer.specs.{HashedReading.{answer_by, hashed_exists, hashed_wildcard_answer, missing_closer}, ZoneAnswer.{expanded_answer, owned_answer}}
-use Rattle.domain_answer.specs.{HashedReading.{tells_encloser, tells_wildcard, IsHashedRead, hashed_encloser, hashed_zone_answer}, ZoneAnswer.is_at_parent}
+use Rattle.domain_answer.specs.{HashedReading.{tells_encloser, tells_wildcard, IsHashedRead, hashed_encloser, hashed_zone_answer}}
+use Rattle.domain_answer.specs.ZoneAnswer.{is_at_parent, is_meta_type}
 use Rattle.domain_answer.specs.{ZoneAnswer.wildcard_below, declared.answer.Answer.{Answer, TheVariants.{MayBeUnsigned, NoCloserName, NotProven}}}
 use Rattle.domain_denier.proofs.HashedPickLemmas.{IsPickedRead, none_read, AreAmong, all_among, among_contained, contained, in_place, no_match, others_among}
 use Rattle.domain_denier.{proofs.HashedPickLemmas.{picked_among, read_is, without_others}, specs.HashedPicked.{AreHashedNeeded, AreHashedThere, IsHashedDenial}}
 use Rattle.domain_denier.specs.HashedPicked.{ArePickedIfMissing, is_of_missing_name}
-use Rattle.domain_answer.specs.declared.answer.Answer.TheVariants.{AtParent}
+use Rattle.domain_answer.specs.{Reading.needs_no_records, declared.answer.Answer.TheVariants.AtParent}
 use Rattle.domain_denier.specs.HashedPicked.{IsHashedDenied, IsHashedWhole, TellOfTheirParts, all_records, hashed_picked, picked_without, without_records}
 use Rattle.domain_denier.specs.{HashedPicked.{IsOfHash, tells_hash, IsOfZone as IsOfSomeZone, IsSoleOf}, declared.nsec3.Nsec3Denial.Nsec3Denial}
 use Rattle.domain_denier.specs.Picked.{at_place}
@@ -201,12 +202,13 @@ module _ (L : List ZoneRecord) (a : Name) (config : ChainConfig) (x : Name) (t :
   zone_unsigned =
       choose_by IsOfOptOut (not (is_at_or_below x a)) _ _ (λ _ n e. absurd (cc)) (λ _.
       choose_by IsOfOptOut (is_at_parent a x t) _ _ (λ _ n e. absurd (cc)) (λ _.
+      choose_by IsOfOptOut (is_meta_type t) _ _ (λ _ n e. absurd (cc)) (λ _.
       choose_by IsOfOptOut (is_below_chain_cut L a config x) _ _ (λ _ n e. absurd (cc)) (λ _.
       choose_by IsOfOptOut (hashed_exists L a config x) _ _
       (λ _ n e. absurd (owned_signed (is_zone_cut L a x) (nsec3_lists L a config x) (length x) t n e)) (λ _.
       choose_by IsOfOptOut (nsec3_lists L a config (hashed_encloser L a config x) dname) _ _ (λ _ n e. absurd (cc)) (λ _.
       choose_by IsOfOptOut (is_opt_out config.flags) _ _ (λ out n e. opted (is_opt_out config.flags) (length (hashed_encloser L a config x)) out)
-      (λ _ n e. absurd (wildcard_signed L a config (length (hashed_encloser L a config x)) (wildcard_below (hashed_encloser L a config x)) t n e)))))))
+      (λ _ n e. absurd (wildcard_signed L a config (length (hashed_encloser L a config x)) (wildcard_below (hashed_encloser L a config x)) t n e))))))))
 
 module _ (L : List ZoneRecord) (config : ChainConfig) (chain : ChainRecords) (x : Name) (t : ℕ) where
   abbrev a : Name
@@ -235,7 +237,7 @@ module _ (L : List ZoneRecord) (config : ChainConfig) (chain : ChainRecords) (x 
   closes listed = (same_name en x || is_zone_cut L a en || nsec3_lists L a config en dname) || is_covered (chain_records a config listed) (next_closer x en)
 
   module _ (hash : Hash) (whole : IsHashedWhole L config hash chain) (knows : ChainsAreKnown) (small : t < 65536)
-      (low : is_at_or_below x a ≡ true) (parent : is_at_parent a x t ≡ false) (asked : AreAskedAlone L a config x) where
+      (low : is_at_or_below x a ≡ true) (parent : is_at_parent a x t ≡ false) (asks : is_meta_type t ≡ false) (asked : AreAskedAlone L a config x) where
     facts : ChainFacts L a config links
     facts = knows L a config links whole.is
 
@@ -243,12 +245,12 @@ module _ (L : List ZoneRecord) (config : ChainConfig) (chain : ChainRecords) (x 
     proved_is : (listed : List HashedLink) → AreAmong links listed → (answer : Answer)
         → IsHashedRead (chain_records a config listed) x t answer → answer ≡ hashed_proved_answer L a config listed x t
     proved_is listed among answer read =
-        read_proved knows (chain_records a config listed) x t answer small low parent read L config links refl refl whole.leaves_out whole.is asked
+        read_proved knows (chain_records a config listed) x t answer small low parent asks read L config links refl refl whole.leaves_out whole.is asked
         (hashed_contained_alike links listed (among_contained links listed among))
 
     inside_proved : (listed : List HashedLink)
         → hashed_proved_answer L a config listed x t ≡ cond (not (tells_encloser L a config listed x)) NotProven (rest listed)
-    inside_proved listed = λ i. cond (not (low i) || parent i) zone (cond (not (tells_encloser L a config listed x)) NotProven (rest listed))
+    inside_proved listed = λ i. cond (not (low i) || (parent i || asks i)) zone (cond (not (tells_encloser L a config listed x)) NotProven (rest listed))
 
     untold : (listed : List HashedLink) → tells_encloser L a config listed x ≡ false → hashed_proved_answer L a config listed x t ≡ NotProven
     untold listed e = inside_proved listed ∙ (λ i. cond (not (e i)) NotProven (rest listed))
@@ -314,7 +316,7 @@ module _ (L : List ZoneRecord) (config : ChainConfig) (chain : ChainRecords) (x 
             inside_proved listed ∙ elim r.1.1 [
               | inl closer ↦ less_by (tells_encloser L a config listed x) (is_below_chain_cut L a config x) (hashed_exists L a config x)
                   (nsec3_lists L a config en dname) (is_opt_out config.flags) (tells_wildcard L a config listed x) r.1.0 (length en) zone
-                  (λ n e. subst IsOfZone e (zone_says L a config x t)) (sym closer ∙ says)
+                  (λ n e. subst (IsOfZone t) e (zone_says L a config x t)) (sym closer ∙ says)
               | inr out ↦ same_by (tells_encloser L a config listed x) (needs_wildcard L a config x && not (tells_wildcard L a config listed x)) r.1.0
                   (length en) zone (missing_closer config (length en)) (zone_unsigned L a config x t) (sym out ∙ says)
             ];
@@ -367,13 +369,13 @@ module _ (L : List ZoneRecord) (config : ChainConfig) (chain : ChainRecords) (x 
 -- ---- so it is as it is promised
 
 module _ (knows : ChainsAreKnown) (hash : Hash) (chain : ChainRecords) (x : Name) (t : ℕ) (small : t < 65536)
-    (low : is_at_or_below x chain.param.owner ≡ true) (parent : is_at_parent chain.param.owner x t ≡ false) where
+    (low : is_at_or_below x chain.param.owner ≡ true) (parent : is_at_parent chain.param.owner x t ≡ false) (asks : is_meta_type t ≡ false) where
   pub denied_by : (d : Nsec3Denial) → (IsOfSomeZone hash chain → IsPickedRead (all_records hash chain) x t d) → AreHashedThere chain.links d
       → ArePickedIfMissing d → IsHashedDenied hash chain x t (Ok d)
   denied_by d read there missing = record {
     outside = λ out. absurd (false≢true (sym out ∙ low));
     parent = λ inside at. absurd (false≢true (sym parent ∙ at));
-    denial = λ L config whole asked. denial_is L config chain x t hash whole knows small low parent asked d (read (L, config, whole));
+    denial = λ L config whole asked. denial_is L config chain x t hash whole knows small low parent asks asked d (read (L, config, whole));
     exact = λ needs L config whole. (read (L, config, whole)).picked;
     there = there;
     missing = missing;
@@ -384,24 +386,25 @@ module _ (knows : ChainsAreKnown) (hash : Hash) (chain : ChainRecords) (x : Name
   denied_none none = record {
     outside = λ out. absurd (false≢true (sym out ∙ low));
     parent = λ inside at. absurd (false≢true (sym parent ∙ at));
-    denial = λ L config whole asked. absurd (never_unmatched L config chain x t hash whole knows small low parent asked (none (L, config, whole)));
+    denial = λ L config whole asked. absurd (never_unmatched L config chain x t hash whole knows small low parent asks asked (none (L, config, whole)));
     exact = λ needs L config whole. none_read (all_records hash chain) x t (none (L, config, whole));
     there = grind (arith, common_steps);
     missing = record { next_closer = refl; wildcard = refl };
   }
 
--- where the parent answers, the record of the apex, as it is picked for another type
-pub denied_at_parent : (hash : Hash) (chain : ChainRecords) (x : Name) (s t : ℕ) (own d : Nsec3Denial) → is_at_or_below x chain.param.owner ≡ true
-    → is_at_parent chain.param.owner x t ≡ true → IsHashedDenied hash chain x s (Ok own) → d.answer ≡ AtParent → d.of_encloser ≡ own.of_encloser
+-- where the answer needs no records, that of the closest encloser, as it is picked for another type
+pub denied_alone : (hash : Hash) (chain : ChainRecords) (x : Name) (s t : ℕ) (own d : Nsec3Denial) → is_at_or_below x chain.param.owner ≡ true
+    → (is_at_parent chain.param.owner x t || is_meta_type t) ≡ true → IsHashedDenied hash chain x s (Ok own)
+    → d.answer ≡ cond (is_at_parent chain.param.owner x t) AtParent NotProven → d.of_encloser ≡ own.of_encloser
     → d.of_next_closer ≡ None → d.of_wildcard ≡ None → IsHashedDenied hash chain x t (Ok d)
-denied_at_parent hash chain x s t own d low at picked answer encloser closer wildcard = record {
+denied_alone hash chain x s t own d low at picked answer encloser closer wildcard = record {
   outside = λ out. absurd (false≢true (sym out ∙ low));
-  parent = λ inside here. record { answer = answer; next_closer = closer; wildcard = wildcard };
+  parent = λ inside here. record { answer = answer ∙ (λ i. cond (here i) AtParent NotProven); next_closer = closer; wildcard = wildcard };
   denial = λ L config whole asked.
       let n = picked.denial L config whole asked in
       record {
-        zone = rw (low, at) answer;
-        proved = rw (low, at) refl;
+        zone = answer ∙ sym (says L config);
+        proved = needless L config (hashed_picked chain.links d);
         own = λ inside. let o = n.own inside in (o.0, encloser ∙ o.1);
         parts = record {
           encloser = λ place e. n.parts.encloser place (sym encloser ∙ e);
@@ -409,11 +412,12 @@ denied_at_parent hash chain x s t own d low at picked answer encloser closer wil
           wildcard = λ place e. absurd (let none = wildcard in cc);
         };
         needed = record {
-          name = λ place tells here. absurd (false≢true (sym here ∙ at));
+          name = λ place tells here.
+              needless L config (picked_without chain.links place d) ∙ says L config ∙ (λ i. cond (here i) AtParent NotProven);
           wildcard = λ place e apart. absurd (let none = wildcard in cc);
         };
       };
-  exact = λ needs. absurd (false≢true (sym needs ∙ or_right (not (is_at_or_below x chain.param.owner)) (is_at_parent chain.param.owner x t) at));
+  exact = λ needs. absurd (false≢true (sym needs ∙ none_needed));
   there = λ place is. elim is [
     | inl tells ↦ elim tells [
       | inl e ↦ picked.there place (inl (inl (sym encloser ∙ e)))
@@ -422,9 +426,25 @@ denied_at_parent hash chain x s t own d low at picked answer encloser closer wil
     | inr e ↦ absurd (let none = wildcard in cc)
   ];
   missing =
-      let apart : is_of_missing_name d.answer ≡ false = ap is_of_missing_name answer in
+      let apart : is_of_missing_name d.answer ≡ false =
+      ap is_of_missing_name answer ∙ choose_by (λ v. is_of_missing_name v ≡ false) (is_at_parent chain.param.owner x t) AtParent NotProven (λ e. refl)
+      (λ e. refl) in
       record { next_closer = ap is_some closer ∙ sym apart; wildcard = ap is_some wildcard ∙ sym apart };
 }
+  where
+    none_needed : needs_no_records chain.param.owner x t ≡ true
+    none_needed = or_right (not (is_at_or_below x chain.param.owner)) (is_at_parent chain.param.owner x t || is_meta_type t) at
+
+    says : (L : List ZoneRecord) (config : ChainConfig)
+        → hashed_zone_answer L chain.param.owner config x t ≡ cond (is_at_parent chain.param.owner x t) AtParent NotProven
+    says L config = grind (arith, common_steps)
+
+    needless : (L : List ZoneRecord) (config : ChainConfig) (listed : List HashedLink)
+        → hashed_proved_answer L chain.param.owner config listed x t ≡ hashed_zone_answer L chain.param.owner config x t
+    needless L config listed = λ i. cond (none_needed i) (hashed_zone_answer L chain.param.owner config x t) (cond
+        (not (tells_encloser L chain.param.owner config listed x)) NotProven (cond
+        (needs_wildcard L chain.param.owner config x && not (tells_wildcard L chain.param.owner config listed x))
+        (NoCloserName (length (hashed_encloser L chain.param.owner config x))) (hashed_zone_answer L chain.param.owner config x t)))
 
 -- ---- What records say of an encloser.
 

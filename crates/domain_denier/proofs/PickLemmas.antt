@@ -8,12 +8,13 @@ use Rattle.domain_names.specs.Name.{is_at_or_below, is_strictly_below, same_name
 use Rattle.domain_zone.proofs.{PairLemmas.{in_at, pair_is, pairs_length, find_none, said}, NameLemmas.{below_from, before_right, one_lowered, same_is}}
 use Rattle.domain_zone.specs.{Covering.{pairs, matches_or_covers}, Enclosers.{longer, shared}, Zone.{ZoneRecord, unoccluded_owners, is_unoccluded}}
 use Rattle.domain_nsec.specs.{Chain.Link, declared.config.GenerateNsecConfig.GenerateNsecConfig}
-use Rattle.domain_checker.{proofs.MeantLemmas.{apex_exists, closest_is, config_with, contained_alike, inside}, specs.Reading.{is_cover, is_match}}
+use Rattle.domain_checker.{proofs.MeantLemmas.{apex_exists, choose_by, closest_is, config_with, contained_alike, inside}, specs.Reading.{is_cover, is_match}}
 use Rattle.domain_checker.specs.Verdict.{NsecChainsAreKnown, NsecFacts, has_match_or_cover}
 use Rattle.domain_answer.proofs.{ChainLemmas.{facts_leaving, given_never, match_own}, EncloserLemmas.{closest_last, free_parts, wildcard_low, answer_so}}
 use Rattle.domain_answer.specs.Reading.{IsAnswered, is_missing, knows_wildcard, proved_answer, IsNameAnswer, name_answer, absent_answer}
 use Rattle.domain_answer.specs.Reading.{listed_both, match_answer}
-use Rattle.domain_answer.specs.{Reading.{reading, tells_occluded, wildcard_answer}, declared.answer.NameAnswer.TheVariants.Given, ZoneAnswer.is_at_parent}
+use Rattle.domain_answer.specs.Reading.{is_usable, reading, tells_occluded, usable, usable_reading, wildcard_answer}
+use Rattle.domain_answer.specs.{ZoneAnswer.{is_at_parent, is_meta_type}, declared.answer.NameAnswer.TheVariants.Given}
 use Rattle.domain_answer.specs.{ZoneAnswer.{wildcard_below, encloser, name_exists, zone_answer}, declared.answer.Answer.{Answer, TheVariants.AtParent}}
 use Rattle.domain_answer.specs.declared.answer.{Answer.TheVariants.{NoCloserName, OutsideZone, NotProven}, NameAnswer.NameAnswer}
 use Rattle.domain_denier.{proofs.HashedPickLemmas.{record_there, contained}, specs.Picked.{IsOfWildcard, IsSilent, IsTold, Tells, IsOf, IsWhole, at_place}}
@@ -72,7 +73,15 @@ silent_tests a x k e = grind (arith, common_steps, and_left, or_parts)
 pub count_kept : (a : Name) (listed : List Link) (n m : ℕ) (w : Name) (t : ℕ) → wildcard_answer a listed n w t ≡ NoCloserName m → n ≡ m
 count_kept a listed n m w t e = grind (arith, common_steps)
 
--- a record that says something of it matches or covers it
+-- what holds whether or not the record counts
+usable_one : (a : Name) (k : Link) (P : List Link → Type 0) → P (k ∷ []) → P [] → P (usable a (k ∷ []))
+usable_one a k P counts ignored = choose_by P (is_usable a k) (k ∷ []) [] (λ e. counts) (λ e. ignored)
+
+-- a record that says something of it counts, and matches or covers it
+wildcard_counts : (a w : Name) (n t : ℕ) (l : Link) → ((m : ℕ) → wildcard_answer a (usable a (l ∷ [])) n w t ≢ NoCloserName m) → is_usable a l ≡ true
+wildcard_counts a w n t l some =
+    true_from_ne_false (is_usable a l) (λ e. some n (λ i. wildcard_answer a (cond (e i) (l ∷ []) []) n w t))
+
 wildcard_tells : (a w : Name) (n t : ℕ) (l : Link) → ((m : ℕ) → wildcard_answer a (l ∷ []) n w t ≢ NoCloserName m)
     → matches_or_covers before l.owner l.next w ≡ true
 wildcard_tells a w n t l some =
@@ -118,56 +127,88 @@ said_inside a listed x t told is some = grind (arith, common_steps)
 
 -- ---- one record
 
+-- without a record nothing is said of a name in the zone, or only that the parent zone answers
+none_told : (a x : Name) (t : ℕ) → IsTold (reading a [] x t) → ⊥
+none_told a x t told = grind (arith, common_steps)
+
+none_denied : (a x : Name) (t n : ℕ) → reading a [] x t ≢ NoCloserName n
+none_denied a x t n e = grind (arith, common_steps)
+
+pub none_read : (a x : Name) (t : ℕ) → is_at_or_below x a ≡ true → is_at_parent a x t ≡ false → usable_reading a [] x t ≡ NotProven
+none_read a x t low parent = grind (arith, common_steps)
+
+-- where the wildcard is left to ask, the type is one that records have
+pub asks_of : (a : Name) (listed : List Link) (x : Name) (t n : ℕ) → reading a listed x t ≡ NoCloserName n → is_meta_type t ≡ false
+asks_of a listed x t n e = grind (arith, common_steps)
+
 module _ (a x : Name) (t : ℕ) (k : Link) where
-  -- by whether the name is inside, the type the parent's, and the record matches or covers
-  abbrev chosen : Bool → Bool → Bool → Bool → Answer
-  chosen u p m c = cond (not u) OutsideZone (cond p AtParent (listed_both a (k ∷ []) x t (cond m (Some k) None) (cond c (Some k) None)))
+  -- by whether the name is inside, the type the parent's or no record's, and the record matches or covers
+  abbrev chosen : Bool → Bool → Bool → Bool → Bool → Answer
+  chosen u p q m c = cond (not u) OutsideZone (cond p AtParent (cond q NotProven (listed_both a (k ∷ []) x t (cond m (Some k) None) (cond c (Some k) None))))
 
-  unproven : (u p : Bool) → IsTold (chosen u p false false) → ⊥
-  unproven u p told = grind (arith, common_steps)
+  unproven : (u p q : Bool) → IsTold (chosen u p q false false) → ⊥
+  unproven u p q told = grind (arith, common_steps)
 
-  pub told_by_one : IsTold (reading a (k ∷ []) x t) → matches_or_covers before k.owner k.next x ≡ true
-  told_by_one told = grind (arith, common_steps, (silent_tests a x k), unproven, true_from_ne_false)
+  told_if : IsTold (reading a (k ∷ []) x t) → matches_or_covers before k.owner k.next x ≡ true
+  told_if told = grind (arith, common_steps, (silent_tests a x k), unproven, true_from_ne_false)
+
+  pub told_by_one : IsTold (usable_reading a (k ∷ []) x t) → matches_or_covers before k.owner k.next x ≡ true
+  told_by_one =
+      usable_one a k (λ ls. IsTold (reading a ls x t) → matches_or_covers before k.owner k.next x ≡ true) told_if (λ told. absurd (none_told a x t told))
 
   -- what leaves no more to ask than the wildcard, by the tests of the name
-  chosen_parts : (u p m c : Bool) (n : ℕ) → chosen u p m c ≡ NoCloserName n
-      → (u ≡ true) × (p ≡ false) × (m ≡ false) × (c ≡ true) × (tells_occluded a k x ≡ false) × (is_strictly_below k.next x ≡ false)
+  chosen_parts : (u p q m c : Bool) (n : ℕ) → chosen u p q m c ≡ NoCloserName n
+      → (u ≡ true) × (p ≡ false) × (q ≡ false) × (m ≡ false) × (c ≡ true) × (tells_occluded a k x ≡ false) × (is_strictly_below k.next x ≡ false)
       × (absent_answer a (k ∷ []) (length (longer (shared x k.owner) (shared x k.next))) x t ≡ NoCloserName n)
-  chosen_parts false p m c n e = absurd (cc)
-  chosen_parts true true m c n e = absurd (cc)
-  chosen_parts true false true c n e = absurd (given_never (match_answer a k t) (match_answer a k t) (sym (match_own a k t)) n e)
-  chosen_parts true false false false n e = absurd (cc)
-  chosen_parts true false false true n e = grind (arith, common_steps)
+  chosen_parts false p q m c n e = absurd (cc)
+  chosen_parts true true q m c n e = absurd (cc)
+  chosen_parts true false true m c n e = absurd (cc)
+  chosen_parts true false false true c n e = absurd (given_never (match_answer a k t) (match_answer a k t) (sym (match_own a k t)) n e)
+  chosen_parts true false false false false n e = absurd (cc)
+  chosen_parts true false false false true n e = grind (arith, common_steps)
 
   -- with another record, of another name, it says of the name what they say of the wildcard
-  pub both_read : (n : ℕ) → reading a (k ∷ []) x t ≡ NoCloserName n → (l : Link) → is_match a x l ≡ false
+  both_read : (n : ℕ) → reading a (k ∷ []) x t ≡ NoCloserName n → (l : Link) → is_match a x l ≡ false
       → reading a (k ∷ l ∷ []) x t ≡ wildcard_answer a (k ∷ l ∷ []) n (wildcard_below (last_labels n x)) t
   both_read n e l other =
       let N = length (longer (shared x k.owner) (shared x k.next)) in
-      let q = chosen_parts (is_at_or_below x a) (is_at_parent a x t) (is_match a x k) (is_cover a x k) n e in
-      let counts = count_kept a (k ∷ []) N n (wildcard_below (last_labels N x)) t q.6 in
+      let q = chosen_parts (is_at_or_below x a) (is_at_parent a x t) (is_meta_type t) (is_match a x k) (is_cover a x k) n e in
+      let counts = count_kept a (k ∷ []) N n (wildcard_below (last_labels N x)) t q.7 in
       grind (arith, common_steps)
+
+  -- a record that denies the name counts
+  denies_counts : (n : ℕ) → usable_reading a (k ∷ []) x t ≡ NoCloserName n → is_usable a k ≡ true
+  denies_counts n e = true_from_ne_false (is_usable a k) (λ u. none_denied a x t n ((λ i. reading a (cond (sym u i) (k ∷ []) []) x t) ∙ e))
 
 -- ---- records at places of a chain
 
 module _ (links : List Link) (a x : Name) (t : ℕ) where
-  pub one_at : (p : ℕ) → p < length links → IsTold (reading a (at_place links (Some p)) x t) → IsOf links p x
+  pub one_at : (p : ℕ) → p < length links → IsTold (usable_reading a (at_place links (Some p)) x t) → IsOf links p x
   one_at p inside told =
       let some = record_there links p inside in
       let here = ap option_to_list some.1 in grind (arith, common_steps, (told_by_one a x t some.0))
 
   -- where the first record denies the name and says nothing of the wildcard, the second alone says of that what both do
-  module _ (p q n : ℕ) (l : Link) (l_there : slice_get links q ≡ Some l) (says : reading a (at_place links (Some p)) x t ≡ NoCloserName n)
-      (apart : same_name l.owner x ≡ false) (w : Name) (w_is : w ≡ wildcard_below (last_labels n x)) (silent : IsSilent a (at_place links (Some p)) w)
-      (some : (m : ℕ) → wildcard_answer a (l ∷ []) n w t ≢ NoCloserName m) where
-    pub both_at : p < length links → (wildcard_answer a (l ∷ []) n w t ≡ reading a (at_place links (Some p) ++ at_place links (Some q)) x t) × IsOf links q w
+  module _ (p q n : ℕ) (l : Link) (l_there : slice_get links q ≡ Some l) (says : usable_reading a (at_place links (Some p)) x t ≡ NoCloserName n)
+      (apart : same_name l.owner x ≡ false) (w : Name) (w_is : w ≡ wildcard_below (last_labels n x))
+      (silent : IsSilent a (usable a (at_place links (Some p))) w) (some : (m : ℕ) → wildcard_answer a (usable a (l ∷ [])) n w t ≢ NoCloserName m) where
+    pub both_at : p < length links
+        → (wildcard_answer a (usable a (l ∷ [])) n w t ≡ usable_reading a (at_place links (Some p) ++ at_place links (Some q)) x t) × IsOf links q w
     both_at in_p =
         let first = record_there links p in_p in
         let k = first.0 in
         let at_p : at_place links (Some p) ≡ first.0 ∷ [] = ap option_to_list first.1 in
-        let second_alone = unasked a w n t k l (rw at_p at silent) in
-        let both = both_read a x t k n (rw at_p at says) l (unmatched a x l apart) in
-        (grind (arith, common_steps), record { link = l; there = l_there; says = wildcard_tells a w n t l some })
+        let says_k : usable_reading a (k ∷ []) x t ≡ NoCloserName n = rw at_p at says in
+        let k_counts = denies_counts a x t k n says_k in
+        let l_counts = wildcard_counts a w n t l some in
+        let k_alone : usable a (k ∷ []) ≡ k ∷ [] = λ i. cond (k_counts i) (k ∷ []) [] in
+        let l_alone : usable a (l ∷ []) ≡ l ∷ [] = λ i. cond (l_counts i) (l ∷ []) [] in
+        let both_count : usable a (k ∷ l ∷ []) ≡ k ∷ l ∷ [] = λ i. cond (k_counts i) (k ∷ l_alone i) (l_alone i) in
+        let silent_k : IsSilent a (k ∷ []) w = rw k_alone at (rw at_p at silent) in
+        let some_l : (m : ℕ) → wildcard_answer a (l ∷ []) n w t ≢ NoCloserName m = rw l_alone at some in
+        let second_alone = unasked a w n t k l silent_k in
+        let both = both_read a x t k n (rw k_alone at says_k) l (unmatched a x l apart) in
+        (grind (arith, common_steps), record { link = l; there = l_there; says = wildcard_tells a w n t l some_l })
 
 -- what is told of the wildcard is the whole answer, and else the name is denied alone
 module _ (a : Name) (listed : List Link) (n : ℕ) (w v : Name) (t : ℕ) (whole : Answer) (absent : whole ≡ wildcard_answer a listed n v t) (w_is : w ≡ v) where
@@ -180,9 +221,9 @@ module _ (a : Name) (listed : List Link) (n : ℕ) (w v : Name) (t : ℕ) (whole
 -- ---- what is picked is what the answer rests on, and no more
 
 -- where none is picked
-pub none_picked : (links : List Link) (a x : Name) (t : ℕ) (d : NsecDenial) → d.answer ≡ reading a [] x t → d.of_name ≡ None → d.of_wildcard ≡ None
+pub none_picked : (links : List Link) (a x : Name) (t : ℕ) (d : NsecDenial) → d.answer ≡ usable_reading a [] x t → d.of_name ≡ None → d.of_wildcard ≡ None
     → ((L : List ZoneRecord) (config : GenerateNsecConfig) → IsWhole L a config links
-    → reading a [] x t ≡ zone_answer L a config.assume_dnskeys_will_be_added x t)
+    → usable_reading a [] x t ≡ zone_answer L a config.assume_dnskeys_will_be_added x t)
     → ((L : List ZoneRecord) (config : GenerateNsecConfig) → IsWhole L a config links → is_at_or_below x a ≡ true → ⊥) → IsDenial links a x t d
 none_picked links a x t d exact name wildcard zone none = record {
   zone = λ L config whole. exact ∙ zone L config whole;
@@ -194,7 +235,7 @@ none_picked links a x t d exact name wildcard zone none = record {
 }
 
 module _ (knows : NsecChainsAreKnown) (links : List Link) (L : List ZoneRecord) (a : Name) (config : GenerateNsecConfig) (whole : IsWhole L a config links)
-    (x : Name) (t : ℕ) (answered : (listed : List Link) → IsAnswered listed a x t (reading a listed x t)) (under : is_at_or_below x a ≡ true) where
+    (x : Name) (t : ℕ) (answered : (listed : List Link) → IsAnswered listed a x t (usable_reading a listed x t)) (under : is_at_or_below x a ≡ true) where
   abbrev assume : Bool
   assume = config.assume_dnskeys_will_be_added
 
@@ -204,13 +245,13 @@ module _ (knows : NsecChainsAreKnown) (links : List Link) (L : List ZoneRecord) 
   facts : NsecFacts L a (config_with true config.assume_dnskeys_will_be_added) links
   facts = facts_leaving knows L a config links whole.leaves_out whole.order whole.chain
 
-  proved : (listed : List Link) → All (Contains links) listed → reading a listed x t ≡ proved_answer L a config.assume_dnskeys_will_be_added listed x t
+  proved : (listed : List Link) → All (Contains links) listed → usable_reading a listed x t ≡ proved_answer L a config.assume_dnskeys_will_be_added listed x t
   proved listed among = answered listed L config links whole.leaves_out whole.order whole.chain (contained_alike links listed among)
 
   -- what a list proves that has a record of x: what the zone says or, where it lacks one of the wildcard that decides, that there
   -- is no such name
   pub record IsHalf (listed : List Link) : Type 0 where
-    pub says : reading a listed x t ≡ NoCloserName (length (encloser L a x))
+    pub says : usable_reading a listed x t ≡ NoCloserName (length (encloser L a x))
     pub missing : is_missing L a x ≡ true
     pub unknown : knows_wildcard L a listed x ≡ false
 
@@ -220,7 +261,7 @@ module _ (knows : NsecChainsAreKnown) (links : List Link) (L : List ZoneRecord) 
       × (missing ≡ true) × (knows ≡ false))
   halves needs has missing knows n v e = grind (arith, common_steps)
 
-  pub half : (listed : List Link) → All (Contains links) listed → has_match_or_cover listed x ≡ true → (reading a listed x t ≡ zone) ⊎ IsHalf listed
+  pub half : (listed : List Link) → All (Contains links) listed → has_match_or_cover listed x ≡ true → (usable_reading a listed x t ≡ zone) ⊎ IsHalf listed
   half listed among has = grind (arith, common_steps, halves, proved)
 
   one_among : (k : Link) → Contains links k → All (Contains links) (k ∷ [])
@@ -236,14 +277,14 @@ module _ (knows : NsecChainsAreKnown) (links : List Link) (L : List ZoneRecord) 
     here : at_place links (Some p) ≡ of.link ∷ []
     here = ap option_to_list of.there
 
-    half_here : (reading a (at_place links (Some p)) x t ≡ zone) ⊎ IsHalf (at_place links (Some p))
-    half_here = subst (λ ls. (reading a ls x t ≡ zone) ⊎ IsHalf ls) (sym here)
+    half_here : (usable_reading a (at_place links (Some p)) x t ≡ zone) ⊎ IsHalf (at_place links (Some p))
+    half_here = subst (λ ls. (usable_reading a ls x t ≡ zone) ⊎ IsHalf ls) (sym here)
         (half (of.link ∷ []) (one_among of.link (contained links p of.link of.there)) (first_has x of.link [] of.says))
 
-    pub one_says : ((n : ℕ) → reading a (at_place links (Some p)) x t ≢ NoCloserName n) → reading a (at_place links (Some p)) x t ≡ zone
+    pub one_says : ((n : ℕ) → usable_reading a (at_place links (Some p)) x t ≢ NoCloserName n) → usable_reading a (at_place links (Some p)) x t ≡ zone
     one_says other = grind (arith, common_steps, half_here)
 
-    module _ (count : ℕ) (says : reading a (at_place links (Some p)) x t ≡ NoCloserName count) where
+    module _ (count : ℕ) (says : usable_reading a (at_place links (Some p)) x t ≡ NoCloserName count) where
       only_half : IsHalf (at_place links (Some p))
       only_half = grind (arith, common_steps, half_here, answer_so)
 
@@ -262,7 +303,7 @@ module _ (knows : NsecChainsAreKnown) (links : List Link) (L : List ZoneRecord) 
         says_w : matches_or_covers before of_w.link.owner of_w.link.next (wildcard_below (encloser L a x)) ≡ true
         says_w = (λ i. matches_or_covers before of_w.link.owner of_w.link.next (sym wildcard_is i)) ∙ of_w.says
 
-        pub both_say : reading a (at_place links (Some p) ++ at_place links (Some q)) x t ≡ zone
+        pub both_say : usable_reading a (at_place links (Some p) ++ at_place links (Some q)) x t ≡ zone
         both_say =
             let all : at_place links (Some p) ++ at_place links (Some q) ≡ of.link ∷ of_w.link ∷ [] = λ i. here i ++ there_w i in
             let among = both_among of.link of_w.link (contained links p of.link of.there) (contained links q of_w.link of_w.there) in
@@ -281,29 +322,30 @@ module _ (knows : NsecChainsAreKnown) (links : List Link) (L : List ZoneRecord) 
             false≢true (sym only_half.unknown ∙ (λ i. knows_wildcard L a (at_place links (Some (same i))) x) ∙ (λ i. knows_wildcard L a (there_w i) x)
             ∙ first_has (wildcard_below (encloser L a x)) of_w.link [] says_w))
 
-        pub wildcard_alone : is_at_parent a x t ≡ false → reading a (at_place links (Some q)) x t ≡ NotProven
+        pub wildcard_alone : is_at_parent a x t ≡ false → usable_reading a (at_place links (Some q)) x t ≡ NotProven
         wildcard_alone parent =
             let among = one_among of_w.link (contained links q of_w.link of_w.there) in
-            (λ i. reading a (there_w i) x t) ∙ proved (of_w.link ∷ []) among ∙ rw (under, parent, other)
+            let asks = asks_of a (usable a (at_place links (Some p))) x t count says in
+            (λ i. usable_reading a (there_w i) x t) ∙ proved (of_w.link ∷ []) among ∙ rw (under, parent, asks, other)
 
 -- what is picked, as it is promised
 module _ (knows : NsecChainsAreKnown) (links : List Link) (a x : Name) (t : ℕ)
-    (answered : (listed : List Link) → IsAnswered listed a x t (reading a listed x t)) (under : is_at_or_below x a ≡ true) (p : ℕ) where
-  pub denied_by_one : p < length links → IsFound links p x → (answer : Answer) → reading a (at_place links (Some p)) x t ≡ answer
+    (answered : (listed : List Link) → IsAnswered listed a x t (usable_reading a listed x t)) (under : is_at_or_below x a ≡ true) (p : ℕ) where
+  pub denied_by_one : p < length links → IsFound links p x → (answer : Answer) → usable_reading a (at_place links (Some p)) x t ≡ answer
       → ((n : ℕ) → answer ≢ NoCloserName n) → IsDenial links a x t (record { answer = answer; of_name = Some p; of_wildcard = None })
   denied_by_one inside found answer is never = record {
     zone = λ L config whole.
         sym is ∙ one_says knows links L a config whole x t answered under p (found L a config whole under) (λ n e. never n (sym is ∙ e));
     own = λ L config whole low. (p, refl, found L a config whole low);
-    needed = λ L config whole. record { name = λ low parent. rw (low, parent) refl; wildcard = λ some. absurd (some refl) };
+    needed = λ L config whole. record { name = none_read a x t; wildcard = λ some. absurd (some refl) };
     there = grind (arith, common_steps);
     exact = grind (arith, common_steps);
     outside = λ e. absurd (false≢true (sym e ∙ under));
   }
 
-  pub denied_by_both : p < length links → IsFound links p x → (count : ℕ) → reading a (at_place links (Some p)) x t ≡ NoCloserName count
+  pub denied_by_both : p < length links → IsFound links p x → (count : ℕ) → usable_reading a (at_place links (Some p)) x t ≡ NoCloserName count
       → (q : ℕ) → q < length links → IsFound links q (wildcard_below (last_labels count x)) → (answer : Answer)
-      → answer ≡ reading a (at_place links (Some p) ++ at_place links (Some q)) x t
+      → answer ≡ usable_reading a (at_place links (Some p) ++ at_place links (Some q)) x t
       → IsDenial links a x t (record { answer = answer; of_name = Some p; of_wildcard = Some q })
   denied_by_both inside found count says q inside_q found_q answer exact = record {
     zone = λ L config whole.

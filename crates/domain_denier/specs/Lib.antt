@@ -1,2 +1,3 @@
 pub mod HashedPicked
+pub mod Needed
 pub mod Picked

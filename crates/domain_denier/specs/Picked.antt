@@ -4,7 +4,7 @@ use Rattle.std.specs.{Prelude.{option_to_list, option_and_then, ⊤, IsTrue}, Li
 use Rattle.domain_names.specs.Name.{before, Name, is_at_or_below}
 use Rattle.domain_nsec.specs.{Chain.{Link, IsChain}, declared.config.GenerateNsecConfig.GenerateNsecConfig}
 use Rattle.domain_zone.specs.{Covering.matches_or_covers, Zone.{OwnersNeverDescend, ZoneRecord}}
-use Rattle.domain_answer.specs.{Reading.{LeavesOutBelowDname, reading, wildcard_answer}, ZoneAnswer.{is_at_parent, zone_answer}}
+use Rattle.domain_answer.specs.{Reading.{LeavesOutBelowDname, usable_reading, wildcard_answer}, ZoneAnswer.{is_at_parent, zone_answer}}
 use Rattle.domain_answer.specs.declared.answer.Answer.{TheVariants.{NoCloserName, NotProven, AtParent, OutsideZone}, Answer}
 use Rattle.domain_answer.specs.declared.answer.NameAnswer.{NameAnswer, TheVariants.{Given, Absent}}
 use Rattle.domain_denier.specs.declared.{nsec.NsecDenial.NsecDenial, judged.OfWildcard.{OfWildcard, TheVariants.{Told, Untold}}}
@@ -63,9 +63,9 @@ IsFound links place x =
 -- name does not exist
 pub record AreNeeded (links : List Link) (a x : Name) (t : ℕ) (d : NsecDenial) : Type 0 where
   pub name : is_at_or_below x a ≡ true → is_at_parent a x t ≡ false
-      → reading a (at_place links d.of_wildcard) x t ≡ NotProven
+      → usable_reading a (at_place links d.of_wildcard) x t ≡ NotProven
   pub wildcard : d.of_wildcard ≢ None
-      → (n : ℕ) × (reading a (at_place links d.of_name) x t ≡ NoCloserName n)
+      → (n : ℕ) × (usable_reading a (at_place links d.of_name) x t ≡ NoCloserName n)
 
 -- what is picked from the links for a question about x and t, and what it proves
 pub record IsDenial (links : List Link) (a x : Name) (t : ℕ) (d : NsecDenial) : Type 0 where
@@ -81,7 +81,7 @@ pub record IsDenial (links : List Link) (a x : Name) (t : ℕ) (d : NsecDenial) 
   -- for any chain: the picked places are in it, and the answer is what `judge_nsec` says of the
   -- records
   pub there : AreThere links d
-  pub exact : d.answer ≡ reading a (picked links d) x t
+  pub exact : d.answer ≡ usable_reading a (picked links d) x t
   -- for a name outside the zone there are no records
   pub outside : is_at_or_below x a ≡ false → (d.of_name ≡ None) × (d.of_wildcard ≡ None)
 

@@ -2,19 +2,19 @@
 ghost use Rattle.std.specs.Prelude.{◌≡◌, ◌<◌, ◌++◌, Some, length, slice_get, IsTrue};
 ghost use Rattle.domain_names.specs.Name.{last_labels};
 ghost use Rattle.domain_nsec.specs.Chain.{as_link};
-ghost use Rattle.domain_answer.specs.{Reading.{reading, IsNameAnswer}, ZoneAnswer.wildcard_below, declared.answer.Answer.TheVariants.NoCloserName};
+ghost use Rattle.domain_answer.specs.{Reading.{usable, usable_reading, IsNameAnswer}, ZoneAnswer.wildcard_below, declared.answer.Answer.TheVariants.NoCloserName};
 ghost use Rattle.domain_denier.specs.Picked.{IsOfWildcard, IsSilent, Tells, at_place, IsFound};
 
 use crate::owner_keys::OwnerKeys;
 use crate::search::{place_of, suggested};
 use domain_answer::{
-    Answer, NameAnswer, NsecFound, find_nsec, judge_name, judge_nsec, judge_wildcard,
+    Answer, NameAnswer, find_nsec, judge_found_wildcard, judge_name, judge_nsec, judge_wildcard,
 };
 use domain_base::{ParsedName, Rtype, ToName};
 use domain_nsec::{BorrowedNsec, NsecChain};
 
 /// Returns the record at a place of the chain.
-fn lend_at<'c, N: ToName>(chain: &'c NsecChain<'_, N>, place: usize) -> BorrowedNsec<'c>
+pub(crate) fn lend_at<'c, N: ToName>(chain: &'c NsecChain<'_, N>, place: usize) -> BorrowedNsec<'c>
     requires { place < length chain.now }
     ensures { slice_get chain.now place ≡ Some (as_link (λ n. n) result) }
 {
@@ -33,9 +33,10 @@ fn judge_one<A: ToName, N: ToName, M: ToName>(
     place: usize,
 ) -> NameAnswer
     requires { place < length chain.now }
-    ensures { IsNameAnswer (reading (A.labels apex.now) (at_place chain.now (Some place))
-        (M.labels name.now) rtype) (A.labels apex.now) (at_place chain.now (Some place))
-        (M.labels name.now) rtype result }
+    ensures { IsNameAnswer (usable_reading (A.labels apex.now) (at_place chain.now (Some place))
+        (M.labels name.now) rtype) (A.labels apex.now)
+        (usable (A.labels apex.now) (at_place chain.now (Some place))) (M.labels name.now) rtype
+        result }
 {
     judge_name(apex, &[lend_at(chain, place)], name, rtype)
 }
@@ -63,9 +64,10 @@ pub(crate) fn first_of<A: ToName, N: ToName, M: ToName>(
     requires some { 0 < length chain.now }
     ensures inside { result.0 < length chain.now }
     ensures found { IsFound chain.now result.0 (M.labels name.now) }
-    ensures exact { IsNameAnswer (reading (A.labels apex.now) (at_place chain.now (Some result.0))
-        (M.labels name.now) rtype) (A.labels apex.now) (at_place chain.now (Some result.0))
-        (M.labels name.now) rtype result.1 }
+    ensures exact { IsNameAnswer (usable_reading (A.labels apex.now)
+        (at_place chain.now (Some result.0)) (M.labels name.now) rtype) (A.labels apex.now)
+        (usable (A.labels apex.now) (at_place chain.now (Some result.0))) (M.labels name.now) rtype
+        result.1 }
 {
     if let Some(place) = suggested(chain, keys, name, None) {
         let answer = judge_one(apex, chain, name, rtype, place);
@@ -97,15 +99,16 @@ pub(crate) fn of_wildcard<A: ToName, N: ToName>(
     place: usize,
 ) -> OfWildcard
     requires { place < length chain.now }
-    ensures { IsOfWildcard (A.labels apex.now) (at_place chain.now (Some place)) count wildcard.now
-        rtype result }
+    ensures { IsOfWildcard (A.labels apex.now)
+        (usable (A.labels apex.now) (at_place chain.now (Some place))) count wildcard.now rtype
+        result }
 {
     let records = [lend_at(chain, place)];
-    match find_nsec(apex, &records, wildcard) {
-        NsecFound::NoMatch(None) => return OfWildcard::Untold(true),
-        NsecFound::Match(_) | NsecFound::NoMatch(Some(_)) => {}
+    let found = find_nsec(apex, &records, wildcard);
+    if found.is_none() {
+        return OfWildcard::Untold(true);
     }
-    match judge_wildcard(apex, &records, count, wildcard, rtype) {
+    match judge_found_wildcard(apex, &found, count, wildcard, rtype) {
         Answer::NoCloserName(_) => OfWildcard::Untold(false),
         answer => OfWildcard::Told(answer),
     }
@@ -127,14 +130,14 @@ pub(crate) fn second_of<A: ToName, N: ToName, M: ToName>(
     is_silent: bool,
 ) -> (usize, Answer)
     requires first { first < length chain.now }
-    requires denies { reading (A.labels apex.now) (at_place chain.now (Some first))
+    requires denies { usable_reading (A.labels apex.now) (at_place chain.now (Some first))
         (M.labels name.now) rtype ≡ NoCloserName count }
-    requires silent { IsTrue is_silent
-        → IsSilent (A.labels apex.now) (at_place chain.now (Some first)) wildcard.now }
+    requires silent { IsTrue is_silent → IsSilent (A.labels apex.now)
+        (usable (A.labels apex.now) (at_place chain.now (Some first))) wildcard.now }
     requires wildcard { wildcard.now ≡ wildcard_below (last_labels count (M.labels name.now)) }
     ensures inside { result.0 < length chain.now }
     ensures found { IsFound chain.now result.0 wildcard.now }
-    ensures exact { result.1 ≡ reading (A.labels apex.now)
+    ensures exact { result.1 ≡ usable_reading (A.labels apex.now)
         (at_place chain.now (Some first) ++ at_place chain.now (Some result.0)) (M.labels name.now)
         rtype }
 {

@@ -13,12 +13,15 @@
 //! longer, and the one of the wildcard. The last two are picked if the name does not exist in the
 //! chain, also with opt-out. It hashes the names from the name up to the closest encloser and then,
 //! if its record is picked, the wildcard. It searches for each hash in the same way.
+//!
+//! `needed` leaves only the places of records that a response with the answer needs.
 #![tactic(auto)]
 
 mod encloser;
 mod hash_search;
 mod judged;
 pub mod laws;
+mod needed;
 mod nsec;
 mod nsec3;
 mod owner_keys;

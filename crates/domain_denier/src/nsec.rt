@@ -1,6 +1,6 @@
 //! Picks records of an NSEC chain.
 ghost use Rattle.std.specs.Prelude.{◌≡◌, ◌↔◌, [], None, Some, IfOk, IsTrue};
-ghost use Rattle.domain_answer.specs.{Reading.reading, declared.answer.{Answer.TheVariants.OutsideZone, NameAnswer.TheVariants.Given}};
+ghost use Rattle.domain_answer.specs.{Reading.usable_reading, declared.answer.{Answer.TheVariants.OutsideZone, NameAnswer.TheVariants.Given}};
 ghost use Rattle.domain_denier.specs.Picked.{IsDenial};
 
 use crate::judged::{OfWildcard, first_of, of_wildcard, second_of};
@@ -28,7 +28,8 @@ pub struct NsecDenial {
 
 /// Returns the answer that needs no records, and no records.
 fn judge_none<A: ToName, M: ToName>(apex: &A, name: &M, rtype: Rtype) -> NsecDenial
-    ensures answer { result.answer ≡ reading (A.labels apex.now) [] (M.labels name.now) rtype }
+    ensures answer { result.answer
+        ≡ usable_reading (A.labels apex.now) [] (M.labels name.now) rtype }
     ensures name { result.of_name ≡ None }
     ensures wildcard { result.of_wildcard ≡ None }
 {
@@ -107,15 +108,8 @@ fn pick<A: ToName, N: ToName, M: ToName>(
 ///
 /// The first record matches or covers the name. If it proves that the name does not exist, the
 /// second matches or covers the wildcard below the closest encloser, unless the first does that
-/// too. Put into the response:
-///
-/// - both, for a name error or a wildcard without data;
-/// - only the first, for no data, for DS at the apex (`AtParent`), for an unsigned delegation
-///   (`NoDs`; also in a referral, if you ask for the zone cut), or if the answer was expanded from
-///   a wildcard;
-/// - none, for a positive answer or a redirection.
-///
-/// A name outside the zone has none.
+/// too. `NsecDenial::needed` says which of them a response needs, by its answer. A name outside the
+/// zone has none.
 ///
 /// The chain must leave out the names below an owner of a DNAME record, or the zone must have none
 /// (RFC 6672, section 2.4). Does not allocate, and compares about twenty names for a chain of a

@@ -1,15 +1,18 @@
 //! Picks records of an NSEC3 chain.
-ghost use Rattle.std.specs.Prelude.{◌≡◌, ◌<◌, ℕ, None, Some, Err, length, slice_get, IfOk, IfErr, true, false};
+ghost use Rattle.std.specs.Prelude.{◌≡◌, ◌<◌, ◌||◌, cond, ℕ, None, Some, Err, length, slice_get, IfOk, IfErr, true, false};
 ghost use Rattle.domain_names.specs.Name.{is_at_or_below, last_labels};
 ghost use Rattle.domain_nsec3.specs.{Chain.{HashedLink, hash_name, IsNoHash}, View.hash_by};
-ghost use Rattle.domain_answer.specs.{HashedReading.flag_of, ZoneAnswer.{is_at_parent, wildcard_below}};
+ghost use Rattle.domain_answer.specs.{HashedReading.flag_of, ZoneAnswer.{is_at_parent, is_meta_type, wildcard_below}};
 ghost use Rattle.domain_denier.specs.HashedPicked.{without_records, ArePlaces, IsHashedDenied, IsPickRefusal};
 ghost use Rattle.domain_denier.specs.HashedPicked.{wildcard_told_by, with_wildcard, IsFirstAnswer, IsWildcardAnswer};
+ghost use Rattle.domain_answer.specs.declared.answer.Answer.TheVariants.{AtParent, NotProven};
 ghost use Rattle.domain_denier.specs.Picked.{link_at};
 
 use crate::encloser::{PlacedEncloser, find_encloser};
 use crate::hash_search::{HashPlace, look_up};
-use domain_answer::{Answer, encloser_answer, is_at_parent, wildcard_of, wildcard_types_answer};
+use domain_answer::{
+    Answer, encloser_answer, is_at_parent, is_meta_type, wildcard_of, wildcard_types_answer,
+};
 use domain_base::{MAX_NAME, Rtype, ToName};
 use domain_checker::laws::hashed_chains_are_known;
 use domain_hasher::{Nsec3HashError, Nsec3Hasher};
@@ -71,7 +74,10 @@ fn without_records(answer: Answer) -> Nsec3Denial
 }
 
 /// Returns the record at a place of the chain.
-fn lend_at<'c, O: Octets>(chain: &'c Nsec3Chain<'_, O>, place: usize) -> BorrowedNsec3<'c>
+pub(crate) fn lend_at<'c, O: Octets>(
+    chain: &'c Nsec3Chain<'_, O>,
+    place: usize,
+) -> BorrowedNsec3<'c>
     requires { place < length chain.now.links }
     ensures { slice_get chain.now.links place ≡ Some result }
 {
@@ -182,7 +188,8 @@ fn with_wildcard(first: Answer, of_wildcard: Answer) -> Answer
     }
 }
 
-/// Picks records for a name in the zone, unless the parent zone answers.
+/// Picks records for a name in the zone and a type that records can have, unless the parent zone
+/// answers.
 fn pick<O: Octets, M: ToName, H: Nsec3Hasher>(
     alloc: Global,
     chain: &Nsec3Chain<'_, O>,
@@ -192,6 +199,7 @@ fn pick<O: Octets, M: ToName, H: Nsec3Hasher>(
 ) -> Result<Nsec3Denial, Nsec3HashError>
     requires low { is_at_or_below (M.labels name.now) chain.now.param.owner ≡ true }
     requires here { is_at_parent chain.now.param.owner (M.labels name.now) rtype ≡ false }
+    requires asks { is_meta_type rtype ≡ false }
     ensures denied { IsHashedDenied (hash_by (H.answer hasher.now) chain.now.param.parameters)
         chain.now (M.labels name.now) rtype result }
     ensures err { IfErr result (IsNoHash (IsPickRefusal
@@ -226,22 +234,44 @@ fn pick<O: Octets, M: ToName, H: Nsec3Hasher>(
     })
 }
 
+/// Picks the record of the closest encloser of a name in the zone, for an answer that needs no
+/// records: the parent zone answers, or no record of a zone has the type.
+fn pick_encloser<O: Octets, M: ToName, H: Nsec3Hasher>(
+    alloc: Global,
+    chain: &Nsec3Chain<'_, O>,
+    name: &M,
+    rtype: Rtype,
+    answer: Answer,
+    hasher: &H,
+) -> Result<Nsec3Denial, Nsec3HashError>
+    requires low { is_at_or_below (M.labels name.now) chain.now.param.owner ≡ true }
+    requires needless { (is_at_parent chain.now.param.owner (M.labels name.now) rtype
+        || is_meta_type rtype) ≡ true }
+    requires answer { answer ≡ cond (is_at_parent chain.now.param.owner (M.labels name.now) rtype)
+        AtParent NotProven }
+    ensures denied { IsHashedDenied (hash_by (H.answer hasher.now) chain.now.param.parameters)
+        chain.now (M.labels name.now) rtype result }
+    ensures err { IfErr result (IsNoHash (IsPickRefusal
+        (hash_by (H.answer hasher.now) chain.now.param.parameters) chain.now (M.labels name.now))
+        (H.takes_memory hasher.now)) }
+{
+    let own = pick(alloc, chain, name, Rtype::SOA, hasher)?;
+    Ok(Nsec3Denial {
+        of_encloser: own.of_encloser,
+        ..without_records(answer)
+    })
+}
+
 /// Returns the records of an NSEC3 chain with which a server answers a question about a name and a
 /// type (RFC 5155, section 7.2), and what they prove: at most three.
 ///
 /// The first record matches the closest encloser of the name, which may be the name itself. If the
 /// answer rests on the absence of the name one label longer, the second record covers that name,
-/// and the third matches or covers the wildcard below the closest encloser. Put into the response:
+/// and the third matches or covers the wildcard below the closest encloser. `Nsec3Denial::needed`
+/// says which of them a response needs, by its answer.
 ///
-/// - all that are returned, for a name error or a wildcard without data (sections 7.2.2 and 7.2.5),
-///   for no data or an unsigned delegation (`NoDs`; also in a referral, if you ask for the zone
-///   cut), or for DS at the apex (`AtParent`);
-/// - the first two, for a referral to a delegation that was left out of the chain, or for its DS
-///   records (sections 7.2.7 and 7.2.4);
-/// - only the second, if the answer was expanded from a wildcard (section 7.2.6);
-/// - none, for a positive answer or a redirection.
-///
-/// A name outside the zone has none.
+/// A name outside the zone has none. For a type that no record of a zone has (`is_meta_type`), the
+/// answer is `NotProven`, and the record of the closest encloser is returned.
 ///
 /// If the chain has the opt-out flag, each name that does not exist is `MayBeUnsigned`, whatever
 /// the wildcard does: the zone's own data say which of these responses is due. A name error, or no
@@ -280,11 +310,10 @@ pub fn deny_nsec3<O: Octets, M: ToName, H: Nsec3Hasher>(
     }
     if is_at_parent(apex, name, rtype) {
         // The apex's own record, as for any other type (RFC 5155, section 7.2.4).
-        let own = pick(alloc, chain, name, Rtype::SOA, hasher)?;
-        return Ok(Nsec3Denial {
-            of_encloser: own.of_encloser,
-            ..without_records(Answer::AtParent)
-        });
+        return pick_encloser(alloc, chain, name, rtype, Answer::AtParent, hasher);
+    }
+    if is_meta_type(rtype) {
+        return pick_encloser(alloc, chain, name, rtype, Answer::NotProven, hasher);
     }
     pick(alloc, chain, name, rtype, hasher)
 }

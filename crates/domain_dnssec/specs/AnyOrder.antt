@@ -7,6 +7,9 @@ use Rattle.domain_record.specs.declared.record.Record.{Record}
 use Rattle.domain_names.specs.Name.{Name}
 use Rattle.domain_nsec.specs.{Chain.Link, declared.config.GenerateNsecConfig.GenerateNsecConfig}
 use Rattle.domain_checker.specs.{Verdict.{proved_verdict, zone_verdict}, declared.verdict.Verdict.Verdict}
+use Rattle.domain_nsec3.specs.Chain.{ChainConfig}
+use Rattle.domain_checker.specs.HashedVerdict.{HashedRecords}
+use Rattle.domain_answer.specs.HashedReading.{AreAskedAlone, hashed_proved_answer, hashed_zone_answer}
 use Rattle.domain_answer.specs.{Reading.proved_answer, ZoneAnswer.zone_answer, declared.answer.Answer.Answer}
 
 module _ {N D : Type 0} (v : View N D) where
@@ -30,3 +33,15 @@ module _ {N D : Type 0} (v : View N D) where
     abbrev pub IsAnswerOf : Name → ℕ → Answer → Type 0
     IsAnswerOf x t answer = OfZone v given
         (λ L. answer ≡ zone_answer L apex config.assume_dnskeys_will_be_added x t)
+
+  module _ (given : List (Record N D)) (R : HashedRecords) (config : ChainConfig) where
+    -- the whole answer is what these NSEC3 records of the chain of the given records prove about a
+    -- name and a type, unless another name of the chain has a hash that is looked up
+    abbrev pub IsProvedHashedAnswerOf : Name → ℕ → Answer → Type 0
+    IsProvedHashedAnswerOf x t answer = OfZone v given (λ L. AreAskedAlone L R.apex config x
+        → answer ≡ hashed_proved_answer L R.apex config R.links x t)
+
+    -- the same of what the zone of the given records says
+    abbrev pub IsHashedAnswerOf : Name → ℕ → Answer → Type 0
+    IsHashedAnswerOf x t answer = OfZone v given (λ L. AreAskedAlone L R.apex config x
+        → answer ≡ hashed_zone_answer L R.apex config x t)

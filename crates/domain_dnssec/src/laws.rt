@@ -6,12 +6,17 @@ ghost use Rattle.domain_checker.specs.Verdict.{IsAlike, IsPairedIn, IsProved};
 ghost use Rattle.domain_checker.specs.declared.verdict.Verdict.{Verdict};
 ghost use Rattle.domain_nsec.specs.Chain.{Link};
 ghost use Rattle.domain_nsec.specs.declared.config.GenerateNsecConfig.{GenerateNsecConfig};
+ghost use Rattle.domain_nsec3.specs.Chain.{ChainConfig, HashedLink, ParamRecord};
+ghost use Rattle.domain_nsec3.specs.declared.config.Nsec3ParamTtlMode.{Nsec3ParamTtlMode};
+ghost use Rattle.domain_checker.specs.{HashedVerdict.HashedRecords, Verdict.IsHashedAlike};
 ghost use Rattle.domain_answer.specs.{Reading.IsAnswered, declared.answer.Answer.Answer};
+ghost use Rattle.domain_answer.specs.HashedReading.{IsHashedAnswered};
 ghost use Rattle.domain_dnssec.specs.AnyOrder.{IsAnswerOf, IsChainOf, IsProvedAnswerOf, IsProvedOf};
-ghost use Rattle.domain_dnssec.specs.AnyOrder.{IsSaidOf, seen};
+ghost use Rattle.domain_dnssec.specs.AnyOrder.{IsHashedAnswerOf, IsProvedHashedAnswerOf};
+ghost use Rattle.domain_dnssec.specs.AnyOrder.{IsHashedChainOf, IsSaidOf, seen};
 
 use domain_answer::laws as answers;
-pub use domain_answer::laws::chains_leave_out_names_below_dname;
+pub use domain_answer::laws::{chains_leave_out_names_below_dname, opt_out_leaves_names_open};
 use domain_any_order::laws::sorted_owners_never_descend;
 pub use domain_any_order::laws::{
     octets_have_the_chain_of_their_data, sorting_keeps_classes_and_records,
@@ -68,5 +73,33 @@ pub fn answers_tell_of_records<N: ToName, D: ZoneData + CanonicalOrd>()
 {
     sorted_owners_never_descend::<N, D>();
     answers::whole_chains_prove_all();
+    answers::chains_leave_out_names_below_dname();
+}
+
+/// Relates a whole answer from NSEC3 records of a chain to the records that the chain was made
+/// from, which may be in any order, as `answers_tell_of_records` does. The hasher and the
+/// parameters must be those of the chain.
+pub fn hashed_answers_tell_of_records<N: ToName, D: ZoneData + CanonicalOrd>()
+    ensures some { (given : List (Record N D)) (R : HashedRecords) (config : ChainConfig)
+        (mode : Nsec3ParamTtlMode) (links : List HashedLink) (param : ParamRecord) (x : Name)
+        (t : ℕ) (answer : Answer) → config.occlude_below_dname ≡ true → config.hash ≡ R.hash
+        → config.parameters ≡ R.parameters
+        → IsHashedChainOf (seen N.labels D.rtype D.minimum D.canonical_cmp) given R.apex config
+        mode links param
+        → All (IsPairedIn IsHashedAlike links) R.links → IsHashedAnswered R x t answer
+        → IsProvedHashedAnswerOf (seen N.labels D.rtype D.minimum D.canonical_cmp) given R config
+        x t answer }
+    ensures all { (given : List (Record N D)) (R : HashedRecords) (config : ChainConfig)
+        (mode : Nsec3ParamTtlMode) (links : List HashedLink) (param : ParamRecord) (x : Name)
+        (t : ℕ) (answer : Answer) → config.occlude_below_dname ≡ true → config.hash ≡ R.hash
+        → config.parameters ≡ R.parameters
+        → IsHashedChainOf (seen N.labels D.rtype D.minimum D.canonical_cmp) given R.apex config
+        mode links param
+        → R.links ≡ links → IsHashedAnswered R x t answer
+        → IsHashedAnswerOf (seen N.labels D.rtype D.minimum D.canonical_cmp) given R config x t
+        answer }
+{
+    sorted_owners_never_descend::<N, D>();
+    answers::hashed_whole_chains_prove_all();
     answers::chains_leave_out_names_below_dname();
 }

@@ -34,6 +34,7 @@ pub use domain_answer::Nsec3Expansion;
 pub use domain_answer::Nsec3Judgement;
 pub use domain_answer::Nsec3Limits;
 pub use domain_answer::NsecJudgement;
+pub use domain_answer::is_meta_type;
 pub use domain_answer::judge_nsec;
 pub use domain_answer::judge_nsec_with_witnesses;
 pub use domain_answer::judge_nsec3;

@@ -8,7 +8,7 @@ use Rattle.std.proofs.Common.{None, Ok, Some, false, true, ◌≤◌}
 use Rattle.domain_answer.specs.declared.answer.{Answer.Answer, NameAnswer.TheVariants.{Absent}}
 use Rattle.domain_answer.specs.declared.answer.Answer.TheVariants as answers
 use Rattle.domain_answer.specs.{Judged.{IsHashedJudged, IsJudged}, Needs.wildcard_count}
-use Rattle.domain_answer.specs.Reading.{name_answer, needs_no_records, IsFound, IsWildcardWitness}
+use Rattle.domain_answer.specs.Reading.{name_answer, needs_no_records, usable, IsFound, IsWildcardWitness}
 use Rattle.domain_checker.specs.HashedVerdict.{HashedRecords}
 use Rattle.domain_names.specs.Name.{is_at_or_below, last_labels}
 use Rattle.domain_nsec.specs.Chain.{Link}
@@ -17,7 +17,7 @@ use Rattle.judge_program.specs.declared.role.Role.{Role, TheVariants.Wildcard}
 use Rattle.std.proofs.Common.{ap, not, subst, sym, ◌∙◌, ◌||◌}
 use Rattle.std.proofs.lemmas.Bool.{false_from_ne_true, lt-ltb, true_from_ne_false}
 use Rattle.std.specs.Prelude.{nat_lt, Result}
-use Rattle.domain_answer.specs.ZoneAnswer.{is_at_parent}
+use Rattle.domain_answer.specs.ZoneAnswer.{is_at_parent, is_meta_type}
 use Rattle.domain_answer.specs.HashedReading.{found_answer, wildcard_told as hashed_told, AreLookedUp, IsHashedWildcardWitness}
 use Rattle.domain_answer.specs.{Judged.AreHashedWitnesses, Reading.CountsWithin}
 use Rattle.domain_checker.specs.HashedReading.{Encloser}
@@ -92,13 +92,13 @@ wildcard_found a listed x n (Some f) less is =
 
 -- for the wildcard that was looked up for an answer
 pub wildcard_told : (a : Name) (listed : List Link) (x : Name) (t : ℕ) (answer : Answer) (f : Option (Option Link × Option Link))
-    → IsJudged listed a x t answer → IsWildcardWitness a listed x (name_answer answer) f
-    → told_wildcard plain x (wildcard_count answer) f ≡ told_where (nsec_told a listed) (wildcard_asked x (wildcard_count answer))
-wildcard_told a listed x t (answers.Wildcard n) f judged is = wildcard_found a listed x n f judged.within is
-wildcard_told a listed x t (answers.WildcardAlias n) f judged is = wildcard_found a listed x n f judged.within is
-wildcard_told a listed x t (answers.WildcardNoData n) f judged is = wildcard_found a listed x n f judged.within is
-wildcard_told a listed x t (answers.NameError n) f judged is = wildcard_found a listed x n f judged.within is
-wildcard_told a listed x t (answers.NoCloserName n) f judged is = wildcard_found a listed x n f judged.within is
+    → IsJudged listed a x t answer → IsWildcardWitness a (usable a listed) x (name_answer answer) f
+    → told_wildcard plain x (wildcard_count answer) f ≡ told_where (nsec_told a (usable a listed)) (wildcard_asked x (wildcard_count answer))
+wildcard_told a listed x t (answers.Wildcard n) f judged is = wildcard_found a (usable a listed) x n f judged.within is
+wildcard_told a listed x t (answers.WildcardAlias n) f judged is = wildcard_found a (usable a listed) x n f judged.within is
+wildcard_told a listed x t (answers.WildcardNoData n) f judged is = wildcard_found a (usable a listed) x n f judged.within is
+wildcard_told a listed x t (answers.NameError n) f judged is = wildcard_found a (usable a listed) x n f judged.within is
+wildcard_told a listed x t (answers.NoCloserName n) f judged is = wildcard_found a (usable a listed) x n f judged.within is
 wildcard_told a listed x t (answers.MayBeUnsigned n) f judged is = absurd judged.proof
 wildcard_told a listed x t answer f judged is = grind (arith, common_steps)
 
@@ -131,6 +131,9 @@ never_outside answer shown is = grind (arith, common_steps)
 never_many : (answer : Answer) → shows_records answer ≡ true → ◌≡◌ {A = Result Answer Nsec3HashError} (Ok answer) (Ok answers.TooManyIterations) → ⊥
 never_many answer shown is = grind (arith, common_steps)
 
+never_unproven : (answer : Answer) → shows_records answer ≡ true → ◌≡◌ {A = Result Answer Nsec3HashError} (Ok answer) (Ok answers.NotProven) → ⊥
+never_unproven answer shown is = grind (arith, common_steps)
+
 ok_same : (a b : Answer) → ◌≡◌ {A = Result Answer Nsec3HashError} (Ok a) (Ok b) → a ≡ b
 ok_same a b is = cc
 
@@ -154,7 +157,8 @@ module _ (R : HashedRecords) (x : Name) (t : ℕ) where
     looked_up other =
         let low = true_from_ne_false (is_at_or_below x R.apex) (λ e. never_outside answer shown (judged.outside e)) in
         let here = false_from_ne_true (is_at_parent R.apex x t) (λ p. other (ok_same answer answers.AtParent (judged.parent low p))) in
-        let asks : needs_no_records R.apex x t ≡ false = λ i. not (low i) || here i in
+        let plain = false_from_ne_true (is_meta_type t) (λ m. never_unproven answer shown (judged.meta low here m)) in
+        let asks : needs_no_records R.apex x t ≡ false = λ i. not (low i) || (here i || plain i) in
         (asks, by_limit R.parameters.iterations limit (λ more. never_many answer shown (judged.iterations asks more)))
 
     module _ (param : ParamRecord) (e : Option Encloser) (w : Option (Option HashedLink × Option HashedLink))

@@ -14,6 +14,7 @@ use Rattle.domain_nsec.specs.Chain.{Link, as_link}
 use Rattle.domain_nsec3.specs.{Chain.{HashedLink, ParamRecord, hash_name}, View.{as_hashed_link, as_param_record}}
 use Rattle.domain_checker.specs.{HashedReading.{Encloser, IsFoundEncloser}, HashedVerdict.{HashedRecords, first_cover, first_match}}
 use Rattle.domain_checker.specs.Reading.{is_cover, is_match}
+use Rattle.domain_answer.specs.Reading.{usable}
 use Rattle.denial_program.specs.Text.{nsec_line, nsec3_line, nsec3param_line}
 use Rattle.domain_answer.specs.declared.answer.Answer.TheVariants as answers
 use Rattle.domain_answer.specs.declared.needs.Needs.TheVariants as needs
@@ -133,14 +134,15 @@ tellings_of p =
       param = option_map (λ k. as_param_record (λ n. n) k.now) p.param;
     }
 
--- what NSEC records say, if the answer rests on some
+-- what NSEC records that count say, if the answer rests on some
 abbrev pub nsec_tellings : Name → List Link → Name → Answer → Option Tellings
 nsec_tellings a listed x answer =
     if shows_records answer
     then Some (record {
-      matched = nsec_told a listed Asked x;
+      matched = nsec_told a (usable a listed) Asked x;
       closer = None;
-      wildcard = told_where (nsec_told a listed) (wildcard_asked x (wildcard_count answer));
+      wildcard =
+          told_where (nsec_told a (usable a listed)) (wildcard_asked x (wildcard_count answer));
       param = None;
     })
     else None

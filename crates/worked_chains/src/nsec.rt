@@ -13,7 +13,7 @@ type Chain<'a> = NsecChain<'a, OwnName>;
 fn config(form: &str) -> GenerateNsecConfig {
     match form {
         "dnskey" | "any" | "borrowed" => GenerateNsecConfig::new(),
-        "deny" => GenerateNsecConfig::new().with_occlude_below_dname(),
+        "deny" | "needed" => GenerateNsecConfig::new().with_occlude_below_dname(),
         "dname" => GenerateNsecConfig::new()
             .with_occlude_below_dname()
             .without_assuming_dnskeys_will_be_added(),
@@ -32,8 +32,15 @@ fn made(form: &str, apex: &OwnName, words: &[&str], answers: &mut Answers) -> An
     answers.show_records(nsecs.as_slice())
 }
 
-/// Adds what is picked from a chain to answer each name and type.
-fn deny(apex: &OwnName, chain: &Chain<'_>, asked: &[&str], answers: &mut Answers) -> Answered {
+/// Adds what is picked from a chain to answer each name and type. For the form `needed`, adds only
+/// what a response needs of it.
+fn deny(
+    form: &str,
+    apex: &OwnName,
+    chain: &Chain<'_>,
+    asked: &[&str],
+    answers: &mut Answers,
+) -> Answered {
     let denier = answers.ok(NsecDenier::new(answers.alloc, chain))?;
     for words in asked.split(is_slash) {
         let (name, rtype) = answers.question(words)?;
@@ -41,6 +48,11 @@ fn deny(apex: &OwnName, chain: &Chain<'_>, asked: &[&str], answers: &mut Answers
         if denial != deny_nsec(apex, chain, &name, rtype) {
             answers.debug("not as without keys", &denial);
         }
+        let denial = if form == "needed" {
+            denial.needed(chain)
+        } else {
+            denial
+        };
         answers.debug("answer", &denial.answer);
         say_owners!(answers, chain, denial: "name": of_name, "wildcard": of_wildcard);
     }
@@ -56,9 +68,9 @@ fn lent(form: &str, apex: &OwnName, words: &[&str], answers: &mut Answers) -> An
         return answers.ok(Err(ChainError::MixedClasses));
     }
     let made = NsecChain::generate(answers.alloc, apex, groups, &config(form));
-    if form == "deny" {
+    if form == "deny" || form == "needed" {
         let chain = answers.ok(made)?;
-        return deny(apex, &chain, asked, answers);
+        return deny(form, apex, &chain, asked, answers);
     }
     let chain = answers.ok(made.map_err(ChainError::from))?;
     answers.show("records", &chain.len());
@@ -112,7 +124,7 @@ pub fn answer(form: &str, words: &[&str], answers: &mut Answers) -> Answered {
             let nsecs: Nsecs = answers.ok(made)?;
             answers.show_records(nsecs.as_slice())
         }
-        "borrowed" | "deny" => lent(form, apex, words, answers),
+        "borrowed" | "deny" | "needed" => lent(form, apex, words, answers),
         "verdict" | "judge" => judge(form, apex, words, answers),
         _ => made(form, apex, words, answers),
     }

@@ -156,8 +156,15 @@ impl<H: Nsec3Hasher> Hashing<'_, H> {
         show(made.map_err(ChainError::from), answers)
     }
 
-    /// Adds what is picked from a chain to answer each name and type.
-    fn deny(&self, chain: &Chain<'_>, asked: &[&str], answers: &mut Answers) -> Answered {
+    /// Adds what is picked from a chain to answer each name and type. For the form `needed`, adds
+    /// only what a response needs of it.
+    fn deny(
+        &self,
+        form: &str,
+        chain: &Chain<'_>,
+        asked: &[&str],
+        answers: &mut Answers,
+    ) -> Answered {
         for words in asked.split(is_slash) {
             let (name, rtype) = answers.question(words)?;
             let denial = deny_nsec3(answers.alloc, chain, &name, rtype, self.2);
@@ -166,6 +173,11 @@ impl<H: Nsec3Hasher> Hashing<'_, H> {
                 if !are_places(&denial) {
                     answers.debug("other places", &denial.places());
                 }
+                let denial = if form == "needed" {
+                    denial.needed(chain)
+                } else {
+                    denial
+                };
                 say_owners!(
                     answers, chain, denial: "closest encloser": of_encloser,
                     "next closer name": of_next_closer, "wildcard": of_wildcard
@@ -186,8 +198,8 @@ impl<H: Nsec3Hasher> Hashing<'_, H> {
         }
         let made = Nsec3Chain::generate(answers.alloc, self.0, groups, self.1, self.2);
         let chain = answers.ok(made.map_err(ChainError::from))?;
-        if form == "deny" || form == "denyout" {
-            return self.deny(&chain, asked, answers);
+        if form == "deny" || form == "denyout" || form == "needed" {
+            return self.deny(form, &chain, asked, answers);
         }
         say_lent!(answers, chain);
         if form == "hashes" {
@@ -251,7 +263,9 @@ impl<H: Nsec3Hasher> Hashing<'_, H> {
             "faults" => self.faults(words, answers),
             "copies" => self.copies(answers),
             "any" => self.of_any_order(words, answers),
-            "borrowed" | "hashes" | "deny" | "denyout" => self.lent(form, words, answers),
+            "borrowed" | "hashes" | "deny" | "denyout" | "needed" => {
+                self.lent(form, words, answers)
+            }
             "verdict" | "judge" | "expanded" | "within" => self.judge(form, words, answers),
             _ => self.made(form, words, answers),
         }

@@ -16,7 +16,7 @@ told g c answer read =
     hashed_judged c.hashed_chains_are_known.ensures _ _ c.args.limits.now.iterations answer (grind (arith, common_steps)) c.args.rtype
     (subst (λ n. n < 65536) c.to_int-number.ensures c.to_int-number.type_inv)
     (rw c.apex-apex.ensures at (sym c.ends_with.ensures.value ∙ c.if-not-ends_with.false))
-    (rw c.apex-apex.ensures at (sym c.is_at_parent.ensures ∙ c.if-is_at_parent.false)) read
+    (rw c.apex-apex.ensures at (sym c.is_at_parent.ensures ∙ c.if-is_at_parent.false)) (sym c.is_meta_type.ensures ∙ c.if-is_meta_type.false) read
 
 -- what was found, and what is said by it
 found : (g : Over) (c : After-found_answer-first g) → IsFoundEncloser
@@ -66,6 +66,7 @@ returns-in_err-found-2-clause-judged g c =
     rw (r.1, r.2) (record {
       outside = grind (arith, common_steps);
       parent = grind (arith, common_steps);
+      meta = grind (arith, common_steps);
       iterations = grind (arith, common_steps);
       zone = λ few. tt;
       exact = λ asks few. tt;

@@ -12,7 +12,7 @@ told : (g : Over) (c : After-found_answer g) (answer : Answer)
 told g c answer read =
     hashed_judged c.hashed_chains_are_known.ensures _ _ c.args.limit answer (grind (arith, common_steps)) c.args.rtype
     (subst (λ n. n < 65536) c.to_int-number.ensures c.to_int-number.type_inv) (sym c.ends_with.ensures.value ∙ c.if-not-ends_with.false)
-    (sym c.is_at_parent.ensures ∙ c.if-is_at_parent.false) read
+    (sym c.is_at_parent.ensures ∙ c.if-is_at_parent.false) (sym c.is_meta_type.ensures ∙ c.if-is_meta_type.false) read
 
 -- the wildcard below the closest encloser is asked for
 asked : (g : Over) (c : In-NoCloserName g) → IsAsked
@@ -35,6 +35,7 @@ returns-in_err-read_wildcard-in-NoCloserName-clause-judged g c =
     rw (r.1, r.2) (record {
       outside = grind (arith, common_steps);
       parent = grind (arith, common_steps);
+      meta = grind (arith, common_steps);
       iterations = grind (arith, common_steps);
       zone = λ few. tt;
       exact = λ asks few. tt;

@@ -9,3 +9,11 @@ returns-clause-ok g c =
       one_class = c.in_ok-sorted.ensures.one_class;
       zone = (rw c.owner_rrs.ensures.records at made.chain, rw c.owner_rrs.ensures.records at made.param);
     }
+
+pub returns-clause-faultless : goal.returns-clause-faultless
+returns-clause-faultless g c = record {
+  sorted = c.in_ok-sorted.sorted;
+  sorts = c.in_ok-sorted.ensures.sorts;
+  one_class = c.in_ok-sorted.ensures.one_class;
+  zone = rw c.owner_rrs.ensures.records at c.in_ok-generate_nsec3s.ensures.faultless;
+}

@@ -1,7 +1,8 @@
 use Rattle.std.proofs.{Common.{List, ◌≡◌, ◌<◌, true, refl, sym, ◌∙◌, subst, Some, arith}, lemmas.{Bool.false≢true, Grind.common_steps}}
 use Rattle.domain_names.specs.Name.{is_at_or_below}
 use Rattle.domain_nsec.specs.Chain.{Link}
-use Rattle.domain_answer.{proofs.ChainLemmas.{given_is, given_never}, specs.{Reading.{IsAnswered, reading}, declared.answer.Answer.TheVariants.NoCloserName}}
+use Rattle.domain_answer.{proofs.ChainLemmas.{given_is, given_never}, specs.declared.answer.Answer.TheVariants.NoCloserName}
+use Rattle.domain_answer.specs.Reading.{IsAnswered, usable, usable_reading}
 use Rattle.domain_denier.proofs.PickLemmas.{outside_only, said_inside, told_of, untold_of, denied_by_both, denied_by_one, none_picked}
 use Rattle.domain_denier.{proofs.nsec.pick.{Given.Over, Goals.{Else-is_outside, In-Untold}}, specs.Picked.{at_place, IsWhole}}
 use Rattle.domain_nsec.specs.declared.config.GenerateNsecConfig.{GenerateNsecConfig}
@@ -22,7 +23,7 @@ returns-then-is_outside g c =
     let a = g.A.ToName.labels c.args.apex.now in
     let x = g.M.ToName.labels c.args.name.now in
     let t = c.args.rtype in
-    let listed = at_place c.args.chain.now (Some c.first_of-place.result.0) in
+    let listed = usable a (at_place c.args.chain.now (Some c.first_of-place.result.0)) in
     let told = c.first_of-place.ensures.exact in
     let out = outside_only a listed x t (given_is _ _ (sym (c.is_outside.ensures.0 c.if-is_outside.true) ∙ told.exact)) in
     let none = c.judge_none-then-is_outside.ensures in
@@ -32,13 +33,14 @@ returns-then-is_outside g c =
 
 low : (g : Over) (c : Else-is_outside g) → is_at_or_below (g.M.ToName.labels c.args.name.now) (g.A.ToName.labels c.args.apex.now) ≡ true
 low g c =
-    said_inside (g.A.ToName.labels c.args.apex.now) (at_place c.args.chain.now (Some c.first_of-place.result.0)) (g.M.ToName.labels c.args.name.now)
+    said_inside (g.A.ToName.labels c.args.apex.now)
+    (usable (g.A.ToName.labels c.args.apex.now) (at_place c.args.chain.now (Some c.first_of-place.result.0))) (g.M.ToName.labels c.args.name.now)
     c.args.rtype c.first_of-place.result.1 c.first_of-place.ensures.exact.exact (λ e. false≢true (sym c.if-is_outside.false ∙ c.is_outside.ensures.1 e))
 
 answered : (g : Over) (c : Else-is_outside g) (listed : List Link) → IsAnswered listed (g.A.ToName.labels c.args.apex.now)
     (g.M.ToName.labels c.args.name.now) c.args.rtype
-    (reading (g.A.ToName.labels c.args.apex.now) listed (g.M.ToName.labels c.args.name.now) c.args.rtype)
-answered g c listed = c.readings_are_proved.ensures.zone listed _ _ c.args.rtype (subst (λ n. n < 65536) c.to_int-number.ensures c.to_int-number.type_inv)
+    (usable_reading (g.A.ToName.labels c.args.apex.now) listed (g.M.ToName.labels c.args.name.now) c.args.rtype)
+answered g c listed = c.readings_are_proved.ensures.usable listed _ _ c.args.rtype (subst (λ n. n < 65536) c.to_int-number.ensures c.to_int-number.type_inv)
 
 pub returns-in-Given : goal.returns-in-Given
 returns-in-Given g c =
@@ -54,8 +56,8 @@ unreachable-requires g c =
 
 -- the first record denies the name alone
 untold : (g : Over) (c : In-Untold g)
-    → reading (g.A.ToName.labels c.args.apex.now) (at_place c.args.chain.now (Some c.first_of-place.result.0)) (g.M.ToName.labels c.args.name.now) c.args.rtype
-    ≡ NoCloserName c.in-Absent.count
+    → usable_reading (g.A.ToName.labels c.args.apex.now) (at_place c.args.chain.now (Some c.first_of-place.result.0))
+    (g.M.ToName.labels c.args.name.now) c.args.rtype ≡ NoCloserName c.in-Absent.count
 untold g c =
     untold_of _ _ _ _ _ _ _ (c.first_of-place.ensures.exact.absent c.in-Absent.count c.in-Absent.is).0 c.in-Some.ensures.some c.in-Untold.is_silent
     (rw c.in-Untold.is at c.of_wildcard.ensures)

@@ -3,7 +3,7 @@ use Rattle.std.proofs.lemmas.{Option.same_Some, Result.err_from_is_err_and}
 use Rattle.domain_octets.proofs.StdLemmas.{none_some}
 use Rattle.domain_names.specs.Name.{is_at_or_below}
 use Rattle.domain_nsec3.specs.View.{hash_by}
-use Rattle.domain_answer.specs.ZoneAnswer.{is_at_parent}
+use Rattle.domain_answer.specs.ZoneAnswer.{is_at_parent, is_meta_type}
 use Rattle.domain_denier.proofs.{HashedDenyLemmas.{denied_by, denied_none, some_links}, HashedPickLemmas.{all_there, asked_less, placed_at, plain_read}}
 use Rattle.domain_denier.proofs.HashedPickLemmas.{missing_plain, missing_wildcard, record_there, refused_below, wildcard_read}
 use Rattle.domain_denier.proofs.nsec3.pick.{Given.Over, Goals.{After-first_answer-told, After-to_int-number}}
@@ -17,6 +17,9 @@ low g c = c.requires.low
 parent : (g : Over) (c : After-to_int-number g) → is_at_parent c.args.chain.now.param.owner (g.M.ToName.labels c.args.name.now) c.args.rtype ≡ false
 parent g c = c.requires.here
 
+asks : (g : Over) (c : After-to_int-number g) → is_meta_type c.args.rtype ≡ false
+asks g c = c.requires.asks
+
 small : (g : Over) (c : After-to_int-number g) → c.args.rtype < 65536
 small g c = subst (λ n. n < 65536) c.to_int-number.ensures c.to_int-number.type_inv
 
@@ -24,13 +27,13 @@ pub returns-then-is_empty-clause-denied : goal.returns-then-is_empty-clause-deni
 returns-then-is_empty-clause-denied g c =
     let here = (goal.at.returns-then-is_empty-clause-denied g c).After-to_int-number in
     let knows = c.hashed_chains_are_known.ensures in
-    rw c.without_records.ensures (denied_none knows _ _ _ _ (small g here) (low g here) (parent g here)
+    rw c.without_records.ensures (denied_none knows _ _ _ _ (small g here) (low g here) (parent g here) (asks g here)
     (λ zone. absurd (some_links zone.0 _ zone.1 _ (knows zone.0 _ zone.1 _ zone.2.is) (c.is_empty.ensures.0 c.if-is_empty.true))))
 
 pub returns-in_default-clause-denied : goal.returns-in_default-clause-denied
 returns-in_default-clause-denied g c =
     let here = (goal.at.returns-in_default-clause-denied g c).After-to_int-number in
-    rw c.without_records-in_default.ensures (denied_none c.hashed_chains_are_known.ensures _ _ _ _ (small g here) (low g here) (parent g here)
+    rw c.without_records-in_default.ensures (denied_none c.hashed_chains_are_known.ensures _ _ _ _ (small g here) (low g here) (parent g here) (asks g here)
     (rw c.in_default.is at c.in_ok-found.ensures.ok))
 
 -- ---- where the closest encloser is found
@@ -57,7 +60,7 @@ returns-then-is_none-clause-denied g c =
     let p = placed g at.After-first_answer-told in
     let says = c.first_answer-told.ensures in
     let none = no_cover _ _ c.is_none.ensures c.if-is_none.true in
-    denied_by c.hashed_chains_are_known.ensures _ _ _ _ (small g here) (low g here) (parent g here) _
+    denied_by c.hashed_chains_are_known.ensures _ _ _ _ (small g here) (low g here) (parent g here) (asks g here) _
     (λ zone.
     let e = placed_at _ _ _ _ p zone in
     let s = says e.sole.of.link e.sole.of.there in
@@ -90,7 +93,7 @@ returns-clause-denied g c =
     let w = c.in_ok-wildcard.ensures.ok in
     let next = some_cover _ _ c.is_none.ensures c.if-is_none.false in
     let there = record_there c.args.chain.now.links _ w.found.inside in
-    denied_by c.hashed_chains_are_known.ensures _ _ _ _ (small g here) (low g here) (parent g here) _
+    denied_by c.hashed_chains_are_known.ensures _ _ _ _ (small g here) (low g here) (parent g here) (asks g here) _
     (λ zone.
     let e = placed_at _ _ _ _ p zone in
     let s = says e.sole.of.link e.sole.of.there in

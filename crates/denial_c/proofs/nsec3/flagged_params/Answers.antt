@@ -1,0 +1,9 @@
+use Rattle.std.proofs.{Common.{ap, map, rules, ◌∙◌}, lemmas.Fn.filter_same}
+use Rattle.domain_nsec3.specs.View.{as_param_record}
+use Rattle.denial_c.proofs.AmongLemmas.{map_filter}
+use Rattle.denial_c.proofs.nsec3.flagged_params.Goals as goal
+
+pub returns : goal.returns
+returns c =
+    ap (map (as_param_record (λ n. n))) (filter_same _ _ _ (λ x b f' k. search rules) _ _ c.retain.ensures.filtered)
+    ∙ map_filter (as_param_record (λ n. n)) _ c.args.params.items
