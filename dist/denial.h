@@ -49,8 +49,9 @@ extern "C" {
  * that many labels at the end of the name in the question.
  */
 enum denial_judgement {
-    /* The records do not prove what the zone says. Also: the record that matches the name is at a zone
-     * cut and lists SOA, so it belongs to the child zone's apex (RFC 6840, section 4.4). */
+    /* The records do not prove what the zone says. Also: the NSEC3 record that matches the name is at a
+     * zone cut and lists SOA, so it belongs to the child zone's apex (RFC 5155, section 8.9). Also: no
+     * record of a zone has the type: 0, OPT, or 128 to 254, as AXFR (RFC 6895, section 3.1). */
     DENIAL_JUDGED_NOT_PROVEN = 32,
 
     /* The name is not at or below the apex. */
@@ -264,9 +265,11 @@ static inline const char *denial_text(uint32_t number)
  * Returns a number of `enum denial_judgement`, or a fault of `enum denial_answer`: the one with the least
  * number, if there are several.
  *
- * NSEC records whose owner or next name is not at or below the apex are skipped. If several records match a
- * name, the first one counts. If none does, the first one that covers it counts. If the name does not exist,
- * the wildcard below its closest encloser is looked up in the same way.
+ * NSEC records whose owner or next name is not at or below the apex are skipped. So are records that no zone
+ * with the apex can have: the next name is neither after the owner nor the apex (RFC 4034, section 4.1.1), or
+ * the record is from the apex of a child zone, with NS and SOA (RFC 6840, section 4.4). If several others
+ * match a name, the first one counts. If none does, the first one that covers it counts. If the name does not
+ * exist, the wildcard below its closest encloser is looked up in the same way.
  *
  * Allocates memory for the NSEC records by malloc and realloc, and frees it by free before it returns. Without
  * memory, DENIAL_OUT_OF_MEMORY may replace another result. Do not call it from a signal handler, nor in the
@@ -288,9 +291,10 @@ uint32_t denial_judge_nsec(const uint8_t *apex, size_t apex_length,
  *                its records call denial_judge_nsec3_alone.
  *
  * NSEC3 records are skipped if their algorithm, iterations or salt differ from the NSEC3PARAM record, or if
- * their owner is not one label in Base 32 hex and the apex. Hashed are the name, each name above it up to the
- * first that a record matches, and the wildcard if it decides. A hash costs one digest, and one for each
- * iteration.
+ * their owner is not one label in Base 32 hex and the apex. NSEC3 and NSEC3PARAM records with a flag other
+ * than opt-out are skipped too (RFC 5155, sections 4.1.2 and 8.2). Hashed are the name, each name above it
+ * up to the first that a record matches, and the wildcard if it decides. A hash costs one digest, and one
+ * for each iteration.
  *
  * Allocates memory as denial_judge_nsec does.
  */
