@@ -75,6 +75,10 @@ IsShape CountedLong octets =
 abbrev pub IsField : Field → Octets → Type 0
 IsField field octets = IsShape (shape_of field) octets
 
+-- the octets begin with no octets of which P holds
+abbrev pub BeginsWithNo : (Octets → Type 0) → Octets → Type 0
+BeginsWithNo P octets = (part after : Octets) → octets ≡ part ++ after → P part → ⊥
+
 -- ---- octets that are the fields of a layout
 
 -- the octets are any number of fields of this kind, one after another

@@ -2,6 +2,7 @@
 #![tactic(auto)]
 
 mod field;
+mod measure;
 mod table;
 
-pub use field::{Field, Shape, Tail};
+pub use field::{Field, Tail};
