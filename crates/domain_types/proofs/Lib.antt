@@ -1,1 +1,3 @@
 pub mod FieldLemmas
+pub mod DataLemmas
+pub mod TableLemmas

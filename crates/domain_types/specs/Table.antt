@@ -24,7 +24,7 @@ row number mnemonic fields tail =
     record { number = number; mnemonic = mnemonic; fields = fields; tail = tail }
 
 -- all types, in the order of the code's table
-abbrev pub type_rows : List TypeRow
+unfoldable pub type_rows : List TypeRow
 type_rows =
     row 2 (codes "NS") (LoweredName ∷ []) Nothing
     ∷ row 1 (codes "A") (Ipv4 ∷ []) Nothing

@@ -1,6 +1,6 @@
 //! The kinds of fields of record data.
 ghost use Rattle.std.specs.Prelude.{◌≡◌};
-ghost use Rattle.domain_types.specs.Fields.{shape_of};
+ghost use Rattle.domain_types.specs.{Fields.shape_of, Canonical.is_lowered};
 
 /// A kind of field: how its octets lie on the wire and how it prints. The end of a field is known
 /// from its own octets.
@@ -107,6 +107,13 @@ pub enum Tail {
 }
 
 impl Field {
+    /// Returns whether the canonical form lowers the field.
+    pub fn is_lowered(self) -> bool
+        ensures { result ≡ is_lowered self }
+    {
+        self == Field::LoweredName
+    }
+
     /// Returns how the octets of the field lie on the wire.
     pub fn shape(self) -> Shape
         ensures { result ≡ shape_of self }

@@ -1,8 +1,14 @@
 //! The table of all types of records.
 #![tactic(auto)]
 
+mod canonical;
+mod data;
 mod field;
+mod lookup;
 mod measure;
 mod table;
 
+pub use canonical::put_canonical;
+pub use data::is_data;
 pub use field::{Field, Tail};
+pub use lookup::{mnemonic, rtype_of};

@@ -15,6 +15,7 @@ pub(crate) struct Row(
 
 /// Returns a row for each type of IANA's registry, one a line. The table is searched from its
 /// beginning, so the types that zones have most of come first.
+#[tactic(auto, unfolding(crate::specs::Table::type_rows))]
 pub(crate) fn rows() -> &'static [Row]
     ensures { map type_row result.now ≡ type_rows }
 {
