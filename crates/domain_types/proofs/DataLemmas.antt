@@ -3,11 +3,12 @@ use Rattle.std.proofs.Common.{◌≡◌, ℕ, zero, suc, ◌+◌, ◌-◌, ◌*�
 use Rattle.std.{specs.Prelude.{slice_index, IsTrue, ◌↔◌}, proofs.lemmas.{Grind.common_steps, List.{take_at, drop_at, append-nil, append_assoc, get_or-take, get_or_append_left, take-append-drop, length-take, length-map}, Bool.{cases_Bool, Decides.nat_tests}}}
 use Rattle.std.specs.{List.{AllByRecursion}, Char.to_ascii_lowercase}
 use Rattle.domain_octets.specs.Octets.{Octets}
-use Rattle.domain_names.specs.{Name.{Name, IsName, IsLabel, wire_of}, Wire.{IsWire, labels_within, labels_of}}
-use Rattle.domain_names.proofs.WireLemmas.{length-wire_of, length-wire}
+use Rattle.domain_names.specs.{Name.{Name, IsName, IsLabel, wire_of, lowered}, Wire.{IsWire, labels_within, labels_of}}
+use Rattle.domain_names.proofs.{WireLemmas.{length-wire_of, length-wire, IsWire-wire_of, labels_of-wire_of}, OrderLemmas.{lowered_wire, IsName-lowered}}
 use Rattle.domain_types.specs.Fields.{shape_of, IsGateway, HasGateway, absent, ipv4, ipv6, named, IsWord, IsShape, IsField, BeginsWithNo}
 use Rattle.domain_types.specs.Fields.{AreMany, none, one_more, IsTail, AreFields}
-use Rattle.domain_types.specs.Canonical.{name_size, gateway_size, shape_size, field_size, is_lowered, lowered_part, lowered_fields}
+use Rattle.domain_types.specs.Canonical.{name_size, gateway_size, shape_size, field_size, is_lowered, lowered_part, lowered_fields, IsData, canonical_octets}
+use Rattle.domain_types.specs.Table.{fields_of, tail_of}
 use Rattle.domain_types.specs.declared.field.Field.{Field}
 use Rattle.domain_types.specs.declared.field.Tail.{Tail}
 use Rattle.domain_types.specs.declared.field.Shape.{Shape, TheVariants.{Exactly, Domain, Counted, Word, AfterTwo, AfterOne, TwoCounted, CountedInBits, CountedLong}}
@@ -193,3 +194,69 @@ lowering_next layout i first place start len before now next below so inside her
           ∙ ap (λ l. front ++ lowered_fields l octets) (sym at)
           ∙ so.done;
     }
+
+-- ---- laws
+
+pub one_split : (field : Field) (x y after_x after_y : List ℕ) → IsField field x → IsField field y → x ++ after_x ≡ y ++ after_y
+    → (x ≡ y) × (after_x ≡ after_y)
+one_split field x y after_x after_y one other same =
+    let size : length x ≡ length y = sym (field_front field x after_x one) ∙ ap (field_size field) same ∙ field_front field y after_y other in (
+      sym (take_at x after_x (length x) refl) ∙ ap (take (length x)) same ∙ take_at y after_y (length x) (sym size),
+      sym (drop_at x after_x (length x) refl) ∙ ap (drop (length x)) same ∙ drop_at y after_y (length x) (sym size),
+    )
+
+pub lowered_name : (labels : Name) → IsName labels → lowered_part fields.LoweredName (wire_of labels) ≡ wire_of (lowered labels)
+lowered_name labels valid =
+    sym (lowered_wire (wire_of labels) (IsWire-wire_of labels valid)) ∙ ap (λ l. wire_of (lowered l)) (labels_of-wire_of labels valid)
+
+lowered_wire_is : (part : List ℕ) → IsWire part → IsWire (map to_ascii_lowercase part)
+lowered_wire_is part wire = subst IsWire (lowered_wire part wire) (IsWire-wire_of (lowered (labels_of part)) (IsName-lowered (labels_of part) wire.valid))
+
+-- a field that is lowered is a field of the kind
+lowered_field : (field : Field) (part : List ℕ) → IsField field part → IsField field (lowered_part field part)
+lowered_field fields.LoweredName part is = lowered_wire_is part is
+lowered_field field part is = is
+
+lowered_letter : (c : ℕ) → to_ascii_lowercase (to_ascii_lowercase c) ≡ to_ascii_lowercase c
+lowered_letter c = grind (arith, common_steps, nat_tests)
+
+lowered_twice : (octets : List ℕ) → map to_ascii_lowercase (map to_ascii_lowercase octets) ≡ map to_ascii_lowercase octets
+lowered_twice [] = refl
+lowered_twice (c ∷ octets) = ap (λ o. to_ascii_lowercase (to_ascii_lowercase c) ∷ o) (lowered_twice octets) ∙ ap (λ d. d ∷ map to_ascii_lowercase octets) (lowered_letter c)
+
+part_twice : (field : Field) (part : List ℕ) → lowered_part field (lowered_part field part) ≡ lowered_part field part
+part_twice fields.LoweredName part = lowered_twice part
+part_twice field part = refl
+
+fields_data : (layout : List Field) (tail : Tail) (octets : List ℕ) → AreFields layout tail octets → AreFields layout tail (lowered_fields layout octets)
+fields_data [] tail octets is = is
+fields_data (field ∷ more) tail octets is =
+    subst (AreFields (field ∷ more) tail) (sym (lowered_next field more octets is.0 is.1 is.2 is.3))
+    (lowered_part field is.0, lowered_fields more is.1, refl, lowered_field field is.0 is.3, fields_data more tail is.1 is.4)
+
+fields_again : (layout : List Field) (tail : Tail) (octets : List ℕ) → AreFields layout tail octets
+    → lowered_fields layout (lowered_fields layout octets) ≡ lowered_fields layout octets
+fields_again [] tail octets is = refl
+fields_again (field ∷ more) tail octets is =
+    let low = lowered_part field is.0 in
+    let once = lowered_next field more octets is.0 is.1 is.2 is.3 in
+    let twice = lowered_next field more (low ++ lowered_fields more is.1) low (lowered_fields more is.1) refl (lowered_field field is.0 is.3) in
+    ap (lowered_fields (field ∷ more)) once ∙ twice
+    ∙ ap (λ l. l ++ lowered_fields more (lowered_fields more is.1)) (part_twice field is.0)
+    ∙ ap (λ l. low ++ l) (fields_again more tail is.1 is.4) ∙ sym once
+
+fields_length : (layout : List Field) (tail : Tail) (octets : List ℕ) → AreFields layout tail octets → length (lowered_fields layout octets) ≡ length octets
+fields_length [] tail octets is = refl
+fields_length (field ∷ more) tail octets is =
+    ap length (lowered_next field more octets is.0 is.1 is.2 is.3) ∙ length-append (lowered_part field is.0) (lowered_fields more is.1)
+    ∙ ap (λ n. n + length (lowered_fields more is.1)) (length-lowered_part field is.0)
+    ∙ ap (λ n. length is.0 + n) (fields_length more tail is.1 is.4) ∙ sym (length-append is.0 is.1) ∙ sym (ap length is.2)
+
+pub canonical_data : (t : ℕ) (octets : List ℕ) → IsData t octets → IsData t (canonical_octets t octets)
+canonical_data t octets is = fields_data (fields_of t) (tail_of t) octets is
+
+pub canonical_again : (t : ℕ) (octets : List ℕ) → IsData t octets → canonical_octets t (canonical_octets t octets) ≡ canonical_octets t octets
+canonical_again t octets is = fields_again (fields_of t) (tail_of t) octets is
+
+pub canonical_length : (t : ℕ) (octets : List ℕ) → IsData t octets → length (canonical_octets t octets) ≡ length octets
+canonical_length t octets is = fields_length (fields_of t) (tail_of t) octets is

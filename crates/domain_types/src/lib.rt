@@ -4,6 +4,7 @@
 mod canonical;
 mod data;
 mod field;
+pub mod laws;
 mod lookup;
 mod measure;
 mod table;
