@@ -1,3 +1,4 @@
 pub mod FieldLemmas
 pub mod DataLemmas
 pub mod TableLemmas
+pub mod SpellLemmas

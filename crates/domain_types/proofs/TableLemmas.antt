@@ -17,8 +17,8 @@ digits_ascii : (digits : List ℕ) → AllDigits 10 digits → IsAscii digits
 digits_ascii [] all = λ i. omega arith
 digits_ascii (c ∷ digits) all = λ i. digit_at c digits all.0 (digits_ascii digits all.1) i
 
-pub digits_text : (digits : List ℕ) (n : ℕ) → IsNumber 16 digits n → IsUtf8 digits
-digits_text digits n is = IsUtf8-from_ascii digits (digits_ascii digits is.digits.1)
+pub digits_text : (bits : ℕ) (digits : List ℕ) (n : ℕ) → IsNumber bits digits n → IsUtf8 digits
+digits_text bits digits n is = IsUtf8-from_ascii digits (digits_ascii digits is.digits.1)
 
 -- a text that begins with TYPE has it as its first four octets
 pub type_front : (text rest : List ℕ) → HasPrefix (codes "TYPE") text rest → map to_ascii_lowercase (take 4 text) ≡ map to_ascii_lowercase (codes "TYPE")

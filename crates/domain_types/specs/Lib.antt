@@ -1,3 +1,4 @@
 pub mod Fields
 pub mod Table
 pub mod Canonical
+pub mod Spelling

@@ -7,6 +7,7 @@ mod field;
 pub mod laws;
 mod lookup;
 mod measure;
+mod spell;
 mod table;
 
 pub use canonical::put_canonical;

@@ -1,5 +1,0 @@
-use Rattle.domain_types.proofs.TableLemmas.{digits_text}
-use Rattle.domain_types.proofs.lookup.number_of.Goals as goal
-
-pub returns-in-Err-clause-none : goal.returns-in-Err-clause-none
-returns-in-Err-clause-none c = λ n is. c.in-Err.ensures.cases.0 (digits_text c.args.digits.now n is)
