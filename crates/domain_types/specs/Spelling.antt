@@ -5,7 +5,7 @@ use Rattle.std.specs.declared.net.ipv6_addr.Ipv6Addr.{Ipv6Addr}
 use Rattle.domain_octets.specs.{Octets.Octets, Text.{dot, at_sign, backslash, digit_zero}}
 use Rattle.domain_names.specs.{Name.{Name, IsName, wire_of}, Text.NameText}
 use Rattle.domain_base.specs.Scan.{IsNumber}
-use Rattle.domain_types.specs.{Table.MnemonicText, Fields.IsField}
+use Rattle.domain_types.specs.{Table.MnemonicText, Fields.IsWord}
 use Rattle.domain_types.specs.declared.field.Field.{Field}
 use Rattle.domain_types.specs.declared.field.Field.TheVariants as fields
 use Rattle.domain_types.specs.declared.spell.Going.{Going, TheVariants.{Inside, Escaped, AfterDot}}
@@ -62,9 +62,63 @@ string_octet (c ∷ text) = if c == backslash then escaped_octet text else Some 
 
 -- the text spells the octets of a string, one after another
 pub data StringText : Octets → Octets → Type 0 where
-  ends : StringText [] []
-  goes_on : (text string : Octets) (c used : ℕ) → string_octet text ≡ Some (c, used)
+  string_ends : StringText [] []
+  string_goes : (text string : Octets) (c used : ℕ) → string_octet text ≡ Some (c, used)
       → StringText (drop used text) string → StringText text (c ∷ string)
+
+-- ---- the fields, one token each
+
+-- a number of 8, 16 or 32 bits in decimal digits
+abbrev pub ByteText : Octets → Octets → Type 0
+ByteText text octets = (n : ℕ) × IsNumber 8 text n × (octets ≡ n ∷ [])
+
+abbrev pub ShortText : Octets → Octets → Type 0
+ShortText text octets = (n : ℕ) × IsNumber 16 text n × (octets ≡ to_be_bytes w16 n)
+
+abbrev pub LongText : Octets → Octets → Type 0
+LongText text octets = (n : ℕ) × IsNumber 32 text n × (octets ≡ to_be_bytes w32 n)
+
+-- a type of records (RFC 3597, section 5)
+abbrev pub TypeField : Octets → Octets → Type 0
+TypeField text octets = (t : ℕ) × MnemonicText text t × (octets ≡ to_be_bytes w16 t)
+
+-- an IPv6 address (RFC 4291, section 2.2)
+abbrev pub LongAddressText : Octets → Octets → Type 0
+LongAddressText text octets = (a : Ipv6Addr) × IsIpv6Text text a × (octets ≡ ipv6_octets a)
+
+-- a string of at most 255 octets, after its length
+abbrev pub StringField : Octets → Octets → Type 0
+StringField text octets =
+    (string : Octets) × StringText text string × (length string ≤ 255)
+    × (octets ≡ length string ∷ string)
+
+-- letters and digits, after their length
+abbrev pub TagText : Octets → Octets → Type 0
+TagText text octets = (octets ≡ length text ∷ text) × (length text ≤ 255) × IsWord octets
+
+-- the text spells the octets of a field that is no name; the kinds without a text of their own are
+-- spelled by no text: their data are read in the generic form
+abbrev pub PlainText : Field → Octets → Octets → Type 0
+PlainText fields.Number8 text octets = ByteText text octets
+PlainText fields.Number16 text octets = ShortText text octets
+PlainText fields.Number32 text octets = LongText text octets
+PlainText fields.Algorithm text octets = ByteText text octets
+PlainText fields.Scheme text octets = ByteText text octets
+PlainText fields.CertificateType text octets = ShortText text octets
+PlainText fields.RecordType text octets = TypeField text octets
+PlainText fields.Period text octets = LongText text octets
+PlainText fields.Time text octets = LongText text octets
+PlainText fields.Ipv4 text octets = IsDotted text octets
+PlainText fields.Ipv6 text octets = LongAddressText text octets
+PlainText fields.CharacterString text octets = StringField text octets
+PlainText fields.Tag text octets = TagText text octets
+PlainText _ text octets = ⊥
+
+-- the text spells the octets of a field of this kind
+abbrev pub FieldText : Name → Field → Octets → Octets → Type 0
+FieldText origin fields.LoweredName text octets = NameField origin text octets
+FieldText origin fields.Name text octets = NameField origin text octets
+FieldText origin field text octets = PlainText field text octets
 
 -- ---- the reasons why a token gives no field
 

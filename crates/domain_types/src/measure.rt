@@ -41,7 +41,7 @@ fn name_len(octets: &[u8]) -> Option<usize>
 }
 
 /// Returns whether all octets are letters and digits.
-fn are_letters(octets: &[u8]) -> bool
+pub(crate) fn are_letters(octets: &[u8]) -> bool
     ensures { IsTrue result
         ↔ AllByRecursion (λ c. IsTrue (is_ascii_alphanumeric c)) octets.now }
 {

@@ -7,12 +7,19 @@ ghost use Rattle.domain_names.specs.{Name.{wire_of, IsName}, Text.{NameText, Nam
 ghost use Rattle.domain_types.specs.Spelling.{going_on, ends_in_dot, NameField, string_octet, StringText};
 ghost use Rattle.domain_types.specs.Spelling.{SpellsNothing};
 
+use crate::field::Field;
+use crate::lookup::rtype_of;
+use crate::measure::are_letters;
 use domain_base::{FromToken, MAX_NAME, Name, ParsedName, ScanError, ToName};
 use domain_octets::{ArrayBuilder, Octets, OctetsBuilder, SmallOctets};
 use std::alloc::Global;
+use std::net::{Ipv4Addr, Ipv6Addr};
 
 /// The octets of one field, at most 256.
 pub(crate) type Part = ArrayBuilder<256>;
+
+/// The greatest number of octets of a string (RFC 1035, section 3.3).
+const MAX_STRING: usize = 255;
 
 /// The reason why a token gives no field.
 #[derive(Clone, Copy, Debug)]
@@ -188,7 +195,7 @@ fn string_octet(text: &[u8]) -> Option<(u8, usize)>
 
 /// Appends the octets of a string that a text spells, if it has at most 255.
 #[tactic(auto, using(crate::proofs::SpellLemmas::string_steps))]
-fn read_string(text: &[u8]) -> Option<ArrayBuilder<255>>
+fn read_string(text: &[u8]) -> Option<ArrayBuilder<MAX_STRING>>
     ensures some { IfSome result (λ string. StringText text.now string × (length string ≤ 255)) }
     ensures none { IfNone result ((string : Octets) → StringText text.now string
         → 255 < length string) }
@@ -196,8 +203,142 @@ fn read_string(text: &[u8]) -> Option<ArrayBuilder<255>>
     let mut string = ArrayBuilder::new();
     let mut rest = text;
     'octets: while let Some((octet, used)) = string_octet(rest) {
-        string.append_slice(&[octet]).ok()?;
+        if string.as_slice().len() >= MAX_STRING {
+            return None;
+        }
+        let Ok(()) = string.append_slice(&[octet]) else {
+            unreachable!();
+        };
         rest = &rest[used..];
     }
     if rest.is_empty() { Some(string) } else { None }
+}
+
+/// Returns whether all octets are letters and digits, and there are 1 to 255 of them.
+fn spell_tag(text: &[u8]) -> Option<Part>
+    ensures some { IfSome result (TagText text.now) }
+    ensures none { IfNone result ((octets : Octets) → TagText text.now octets → ⊥) }
+{
+    if text.is_empty() || text.len() > MAX_STRING || !are_letters(text) {
+        return None;
+    }
+    Some(counted(text))
+}
+
+/// Returns octets after their length.
+fn counted(octets: &[u8]) -> Part
+    requires { length octets.now ≤ 255 }
+    ensures { result ≡ length octets.now ∷ octets.now }
+{
+    let mut part = part_of(&[octets.len() as u8]);
+    let Ok(()) = part.append_slice(octets) else {
+        unreachable!();
+    };
+    part
+}
+
+/// Returns the octets of the string that a token spells, after their length.
+fn spell_string(text: &[u8]) -> Option<Part>
+    ensures some { IfSome result (StringField text.now) }
+    ensures none { IfNone result ((octets : Octets) → StringField text.now octets → ⊥) }
+{
+    match read_string(text) {
+        Some(string) => Some(counted(string.as_slice())),
+        None => None,
+    }
+}
+
+/// Returns the octet of the number that a token spells.
+fn spell_byte(text: &[u8]) -> Option<Part>
+    ensures some { IfSome result (ByteText text.now) }
+    ensures none { IfNone result ((octets : Octets) → ByteText text.now octets → ⊥) }
+{
+    let number = u8::try_from(number(text)?).ok()?;
+    Some(part_of(&[number]))
+}
+
+/// Returns the two octets of the number that a token spells.
+fn spell_short(text: &[u8]) -> Option<Part>
+    ensures some { IfSome result (ShortText text.now) }
+    ensures none { IfNone result ((octets : Octets) → ShortText text.now octets → ⊥) }
+{
+    let number = u16::try_from(number(text)?).ok()?;
+    Some(part_of(&number.to_be_bytes()))
+}
+
+/// Returns the four octets of the number that a token spells.
+fn spell_long(text: &[u8]) -> Option<Part>
+    ensures some { IfSome result (LongText text.now) }
+    ensures none { IfNone result ((octets : Octets) → LongText text.now octets → ⊥) }
+{
+    let number = number(text)?;
+    Some(part_of(&number.to_be_bytes()))
+}
+
+/// Returns the two octets of the type that a token spells.
+fn spell_type(text: &[u8]) -> Option<Part>
+    ensures some { IfSome result (TypeField text.now) }
+    ensures none { IfNone result ((octets : Octets) → TypeField text.now octets → ⊥) }
+{
+    let number = rtype_of(text)?.to_int();
+    Some(part_of(&number.to_be_bytes()))
+}
+
+/// Returns the octets of the IPv4 address that a token spells.
+fn spell_ipv4(text: &[u8]) -> Option<Part>
+    ensures some { IfSome result (IsDotted text.now) }
+    ensures none { IfNone result ((octets : Octets) → IsDotted text.now octets → ⊥) }
+{
+    match Ipv4Addr::parse_ascii(text) {
+        Ok(address) => Some(part_of(&address.octets())),
+        Err(_) => None,
+    }
+}
+
+/// Returns the octets of the IPv6 address that a token spells.
+fn spell_ipv6(text: &[u8]) -> Option<Part>
+    ensures some { IfSome result (LongAddressText text.now) }
+    ensures none { IfNone result ((octets : Octets) → LongAddressText text.now octets → ⊥) }
+{
+    match Ipv6Addr::parse_ascii(text) {
+        Ok(address) => Some(part_of(&address.octets())),
+        Err(_) => None,
+    }
+}
+
+/// Returns the octets of the field that a token spells, for the kinds that are no names.
+fn spell_plain(field: Field, text: &[u8]) -> Option<Part>
+    ensures some { IfSome result (PlainText field text.now) }
+    ensures none { IfNone result ((octets : Octets) → PlainText field text.now octets → ⊥) }
+{
+    match field {
+        Field::Number8 | Field::Algorithm | Field::Scheme => spell_byte(text),
+        Field::Number16 | Field::CertificateType => spell_short(text),
+        Field::Number32 | Field::Period | Field::Time => spell_long(text),
+        Field::RecordType => spell_type(text),
+        Field::Ipv4 => spell_ipv4(text),
+        Field::Ipv6 => spell_ipv6(text),
+        Field::CharacterString => spell_string(text),
+        Field::Tag => spell_tag(text),
+        _ => None,
+    }
+}
+
+/// Returns the octets of the field that a token spells.
+pub(crate) fn spell(
+    alloc: Global,
+    field: Field,
+    text: &[u8],
+    origin: &ParsedName<'_>,
+) -> Result<Part, SpellFault>
+    ensures ok { IfOk result (FieldText origin.now field text.now) }
+    ensures err { IfErr result (SpellsNothing (FieldText origin.now field text.now)) }
+{
+    match field {
+        Field::LoweredName | Field::Name => spell_name(alloc, text, origin),
+        _ => match spell_plain(field, text) {
+            Some(part) => Ok(part),
+            None => Err(SpellFault::Invalid),
+        },
+    }
 }
