@@ -7,6 +7,9 @@ use Rattle.domain_names.proofs.WireLemmas.{length-wire_of, length-wire}
 use Rattle.std.proofs.Math.Seq.{take-append-add}
 use Rattle.std.proofs.Common.{None}
 use Rattle.domain_types.specs.Spelling.{NameToken, at_origin, absolute, relative, NameField, ends_in_dot, string_octet, StringText, string_ends, string_goes}
+use Rattle.domain_types.specs.Spelling.{FieldText, PlainText}
+use Rattle.domain_types.specs.declared.field.Field.{Field}
+use Rattle.domain_types.specs.declared.field.Field.TheVariants as fields
 use Rattle.domain_names.proofs.TextLemmas.{one_name}
 use Rattle.std.specs.{Prelude.{◌==◌, slice_index}, Char.is_ascii_digit}
 use Rattle.domain_names.specs.Text.{escape_at, decimal_at, is_printable, symbol_at, LabelText, ends, octet, LabelTexts, last, dotted, NameText, root, of_labels, IsBefore}
@@ -223,3 +226,12 @@ pub string_stuck : (text string rest : List ℕ) → ReadsString text string res
 string_stuck text string rest so stuck some all is = let found = so.forth all is in absurd (stuck_text rest found.0 stuck some found.2)
 
 pub ruleset string_steps = (common_steps, string_begins, string_next, string_ended, string_long, string_stuck)
+
+-- ---- fields
+
+-- a field that is no name
+pub plain_field : (origin : Name) (field : Field) (text octets : List ℕ) → (field ≡ fields.LoweredName → ⊥) → (field ≡ fields.Name → ⊥)
+    → FieldText origin field text octets → PlainText field text octets
+plain_field origin fields.LoweredName text octets lowered name is = absurd (lowered refl)
+plain_field origin fields.Name text octets lowered name is = absurd (name refl)
+plain_field origin field text octets lowered name is = is

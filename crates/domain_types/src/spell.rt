@@ -5,7 +5,10 @@ ghost use Rattle.domain_octets.specs.{Octets.Octets, Text.at_sign};
 ghost use Rattle.domain_base.specs.Scan.{IsNumber};
 ghost use Rattle.domain_names.specs.{Name.{wire_of, IsName}, Text.{NameText, NameTextFault, scan_fault_of}, Wire.{IsWire, labels_of}};
 ghost use Rattle.domain_types.specs.Spelling.{going_on, ends_in_dot, NameField, string_octet, StringText};
+ghost use Rattle.domain_types.specs.Spelling.{ByteText, ShortText, LongText, TypeField, TagText};
+ghost use Rattle.domain_types.specs.Spelling.{LongAddressText, StringField, PlainText, FieldText};
 ghost use Rattle.domain_types.specs.Spelling.{SpellsNothing};
+ghost use Rattle.std.specs.Net.Grammar.{IsDotted};
 
 use crate::field::Field;
 use crate::lookup::rtype_of;
