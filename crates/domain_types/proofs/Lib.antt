@@ -2,3 +2,4 @@ pub mod FieldLemmas
 pub mod DataLemmas
 pub mod TableLemmas
 pub mod SpellLemmas
+pub mod ReadLemmas

@@ -5,7 +5,7 @@ use Rattle.domain_octets.specs.Octets.{Octets}
 use Rattle.domain_names.specs.{Name.{Name, IsName, IsLabel, wire_of}, Wire.{IsWire, labels_of}}
 use Rattle.domain_names.proofs.WireLemmas.{length-wire_of, length-wire}
 use Rattle.std.proofs.Math.Seq.{take-append-add}
-use Rattle.std.proofs.Common.{None}
+use Rattle.std.proofs.Common.{None, Option}
 use Rattle.domain_types.specs.Spelling.{NameToken, at_origin, absolute, relative, NameField, ends_in_dot, string_octet, StringText, string_ends, string_goes}
 use Rattle.domain_types.specs.Spelling.{FieldText, PlainText}
 use Rattle.domain_types.specs.declared.field.Field.{Field}
@@ -185,7 +185,7 @@ next_octet : (rest more : List ℕ) (c used : ℕ) → string_octet rest ≡ Som
 unfolding string_octet
 next_octet rest more c used here string_ends = absurd (let e = here in cc)
 next_octet rest more c used here (string_goes t s d taken is after) =
-    let same : Some (d, taken) ≡ Some (c, used) = sym is ∙ here in
+    let same : ◌≡◌ {A = Option (ℕ × ℕ)} (Some (d, taken)) (Some (c, used)) = sym is ∙ here in
     let pair_is : ◌≡◌ {A = ℕ × ℕ} (d, taken) (c, used) = cc in
     let octet_is : d ≡ c = ap (λ p. p.0) pair_is in
     let taken_is : taken ≡ used = ap (λ p. p.1) pair_is in
@@ -219,7 +219,7 @@ string_long text string rest c used so here long all is =
 
 stuck_text : (rest more : List ℕ) → string_octet rest ≡ None → 0 < length rest → StringText rest more → ⊥
 stuck_text rest more stuck some string_ends = omega (arith, some)
-stuck_text rest more stuck some (string_goes t s d taken is after) = let e : Some (d, taken) ≡ None = sym is ∙ stuck in cc
+stuck_text rest more stuck some (string_goes t s d taken is after) = let e : ◌≡◌ {A = Option (ℕ × ℕ)} (Some (d, taken)) None = sym is ∙ stuck in cc
 
 pub string_stuck : (text string rest : List ℕ) → ReadsString text string rest → string_octet rest ≡ None → 0 < length rest
     → (all : List ℕ) → StringText text all → 255 < length all

@@ -2,3 +2,4 @@ pub mod Fields
 pub mod Table
 pub mod Canonical
 pub mod Spelling
+pub mod Reading
