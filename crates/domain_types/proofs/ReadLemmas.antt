@@ -4,7 +4,8 @@ use Rattle.std.proofs.lemmas.{Grind.common_steps, List.{append_assoc, append-nil
 use Rattle.domain_octets.specs.Octets.{Octets}
 use Rattle.domain_names.specs.Name.{Name}
 use Rattle.domain_types.specs.Spelling.{FieldText}
-use Rattle.domain_types.specs.Reading.{TokenText, is_misquoted, Spells, TokenFault, ManyTexts, ManyFault, Grows}
+use Rattle.domain_types.specs.declared.token.Token.{Token}
+use Rattle.domain_types.specs.Reading.{TokenText, token_text, is_misquoted, Spells, TokenFault, ManyTexts, ManyFault, Grows}
 use Rattle.domain_types.specs.declared.field.Field.{Field}
 use Rattle.domain_types.specs.declared.token.DataFaultKind.{DataFaultKind}
 
@@ -65,3 +66,14 @@ pub many_ends : (origin : Name) (field : Field) (tokens : List TokenText) (place
 many_ends origin field tokens place old now over so =
     let none : drop place tokens ≡ [] = grind (arith, common_steps) in
     subst (ManyTexts origin field tokens) (append-nil so.part) (so.back [] (subst (λ ts. ManyTexts origin field ts []) (sym none) refl))
+
+-- ---- the tokens of the code
+
+abbrev pub first_token : Token
+first_token = record { octets = record { ref_ptr = (0, 0); now = [] }; is_quoted = false }
+
+pub token_at : (tokens : List Token) (place : ℕ) (first : Token) → place < length tokens
+    → token_text (get_or tokens place first) ≡ get_or (map token_text tokens) place (token_text (get_or tokens place first))
+token_at (t ∷ tokens) zero first below = refl
+token_at (t ∷ tokens) (suc place) first below = token_at tokens place first (omega (arith, below))
+token_at [] place first below = absurd (omega (arith, below))
