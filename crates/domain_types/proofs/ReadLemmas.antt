@@ -5,7 +5,15 @@ use Rattle.domain_octets.specs.Octets.{Octets}
 use Rattle.domain_names.specs.Name.{Name}
 use Rattle.domain_types.specs.Spelling.{FieldText}
 use Rattle.domain_types.specs.declared.token.Token.{Token}
-use Rattle.domain_types.specs.Reading.{TokenText, token_text, is_misquoted, Spells, TokenFault, ManyTexts, ManyFault, Grows}
+use Rattle.domain_types.specs.Reading.{TokenText, token_text, is_misquoted, Spells, TokenFault, ManyTexts, ManyFault, Grows, LayoutTexts, LayoutFault, AreRead, AreUnquoted, texts, BaseTexts, BaseFault, QuotedTexts, QuotedFault, tail_kind}
+use Rattle.domain_types.specs.Spelling.{SpellsNothing, StringText}
+use Rattle.domain_codecs.specs.{Codec.Decodes, declared.codec.Codec.Codec}
+use Rattle.std.specs.List.{concat}
+use Rattle.domain_types.specs.declared.spell.SpellFault.{SpellFault}
+use Rattle.domain_types.specs.declared.spell.SpellFault.TheVariants as spell
+use Rattle.domain_types.specs.declared.field.Tail.TheVariants as tails
+use Rattle.domain_types.specs.declared.token.DataFaultKind.TheVariants.{Missing}
+use Rattle.domain_types.specs.declared.field.Tail.{Tail}
 use Rattle.domain_types.specs.declared.field.Field.{Field}
 use Rattle.domain_types.specs.declared.token.DataFaultKind.{DataFaultKind}
 
@@ -77,3 +85,91 @@ pub token_at : (tokens : List Token) (place : ℕ) (first : Token) → place < l
 token_at (t ∷ tokens) zero first below = refl
 token_at (t ∷ tokens) (suc place) first below = token_at tokens place first (omega (arith, below))
 token_at [] place first below = absurd (omega (arith, below))
+
+-- ---- fields, one token each
+
+pub layout_begins : (origin : Name) (layout : List Field) (tokens : List TokenText) (old : List ℕ) → AreRead origin layout tokens 0 old old
+layout_begins origin layout tokens old = record {
+  part = [];
+  appended = sym (append-nil old);
+  back = λ tail after is. is;
+  fault = λ tail later kind is. subst (λ n. LayoutFault origin layout tail tokens n kind) (let e : later ≡ 0 + later = omega arith in e) is;
+}
+
+field_at : (layout : List Field) (place : ℕ) (field first : Field) → place < length layout → field ≡ get_or layout place first
+    → drop place layout ≡ field ∷ drop (place + 1) layout
+field_at layout place field first below at = drop-cons layout place first below ∙ ap (λ f. f ∷ drop (suc place) layout) (sym at) ∙ rw add-one refl
+
+pub layout_next : (origin : Name) (layout : List Field) (tokens : List TokenText) (place : ℕ) (field first : Field) (token : TokenText)
+    (part old now next : List ℕ) → place < length layout → field ≡ get_or layout place first → place < length tokens
+    → token ≡ get_or tokens place token → AreRead origin layout tokens place old now → Spells origin field token part → next ≡ now ++ part
+    → AreRead origin layout tokens (place + 1) old next
+layout_next origin layout tokens place field first token part old now next in_layout is_field in_tokens is_token so spells next_is =
+    let kinds = field_at layout place field first in_layout is_field in
+    let rest = many_at tokens place token in_tokens is_token in
+    record {
+      part = so.part ++ part;
+      appended = next_is ∙ ap (λ n. n ++ part) so.appended ∙ append_assoc old so.part part;
+      back = λ tail after is.
+          let more : LayoutTexts origin (drop place layout) tail (drop place tokens) (part ++ after) =
+          subst (λ fs. LayoutTexts origin fs tail (drop place tokens) (part ++ after)) (sym kinds)
+          (subst (λ ts. LayoutTexts origin (field ∷ drop (place + 1) layout) tail ts (part ++ after)) (sym rest) (part, after, refl, spells, is)) in
+          subst (LayoutTexts origin layout tail tokens) (sym (append_assoc so.part part after)) (so.back tail (part ++ after) more);
+      fault = λ tail later kind is.
+          let more : LayoutFault origin (drop place layout) tail (drop place tokens) (later + 1) kind =
+          subst (λ fs. LayoutFault origin fs tail (drop place tokens) (later + 1) kind) (sym kinds)
+          (subst (λ ts. LayoutFault origin (field ∷ drop (place + 1) layout) tail ts (later + 1) kind) (sym rest) (inr ((part, spells), (later, refl, is)))) in
+          subst (λ n. LayoutFault origin layout tail tokens n kind) (let e : place + (later + 1) ≡ place + 1 + later = omega arith in e)
+          (so.fault tail (later + 1) kind more);
+    }
+
+pub layout_fault : (origin : Name) (layout : List Field) (tokens : List TokenText) (place : ℕ) (field first : Field) (token : TokenText)
+    (old now : List ℕ) (kind : DataFaultKind) (tail : Tail) → place < length layout → field ≡ get_or layout place first → place < length tokens
+    → token ≡ get_or tokens place token → AreRead origin layout tokens place old now → TokenFault origin field token kind
+    → LayoutFault origin layout tail tokens place kind
+layout_fault origin layout tokens place field first token old now kind tail in_layout is_field in_tokens is_token so wrong =
+    let here : LayoutFault origin (drop place layout) tail (drop place tokens) 0 kind =
+    subst (λ fs. LayoutFault origin fs tail (drop place tokens) 0 kind) (sym (field_at layout place field first in_layout is_field))
+    (subst (λ ts. LayoutFault origin (field ∷ drop (place + 1) layout) tail ts 0 kind) (sym (many_at tokens place token in_tokens is_token)) (inl (refl, wrong))) in
+    subst (λ n. LayoutFault origin layout tail tokens n kind) (let e : place + 0 ≡ place = omega arith in e) (so.fault tail 0 kind here)
+
+pub layout_missing : (origin : Name) (layout : List Field) (tokens : List TokenText) (place : ℕ) (first : Field) (old now : List ℕ) (tail : Tail)
+    → place < length layout → length tokens ≤ place → AreRead origin layout tokens place old now → LayoutFault origin layout tail tokens place Missing
+layout_missing origin layout tokens place first old now tail in_layout over so =
+    let none : drop place tokens ≡ [] = grind (arith, common_steps) in
+    let here : LayoutFault origin (drop place layout) tail (drop place tokens) 0 Missing =
+    subst (λ fs. LayoutFault origin fs tail (drop place tokens) 0 Missing) (sym (field_at layout place (get_or layout place first) first in_layout refl))
+    (subst (λ ts. LayoutFault origin (get_or layout place first ∷ drop (place + 1) layout) tail ts 0 Missing) (sym none) (refl, refl)) in
+    subst (λ n. LayoutFault origin layout tail tokens n Missing) (let e : place + 0 ≡ place = omega arith in e) (so.fault tail 0 Missing here)
+
+-- ---- tails
+
+pub base_texts : (codec : Codec) (tokens : List TokenText) (text octets : List ℕ) → 0 < length tokens → AreUnquoted tokens
+    → text ≡ concat (texts tokens) → Decodes codec text octets → BaseTexts codec tokens octets
+base_texts codec tokens text octets some unquoted text_is is =
+    record { some = some; unquoted = unquoted; decodes = subst (λ t. Decodes codec t octets) text_is is }
+
+pub base_fault : (codec : Codec) (tail : Tail) (tokens : List TokenText) (text : List ℕ) (fault : SpellFault) (place : ℕ) (kind : DataFaultKind)
+    → 0 < length tokens → text ≡ concat (texts tokens) → SpellsNothing (Decodes codec text) fault → place ≡ 0 → kind ≡ tail_kind fault tail
+    → BaseFault codec tail tokens place kind
+base_fault codec tail tokens text spell.Invalid place kind some text_is none at is =
+    subst (BaseFault codec tail tokens place) (sym is)
+    (at, refl, some, λ octets texts_are. none octets (subst (λ t. Decodes codec t octets) (sym text_is) texts_are.decodes))
+base_fault codec tail tokens text spell.OutOfMemory place kind some text_is none at is = subst (BaseFault codec tail tokens place) (sym is) tt
+
+pub one_token : (tokens : List Token) → length tokens ≡ 1 → map token_text tokens ≡ token_text (get_or tokens 0 first_token) ∷ []
+one_token [] one = absurd (omega (arith, one))
+one_token (t ∷ []) one = refl
+one_token (t ∷ u ∷ tokens) one = absurd (omega (arith, one))
+
+pub quoted_fault : (tokens : List TokenText) (token : TokenText) (fault : SpellFault) (place : ℕ) (kind : DataFaultKind) → tokens ≡ token ∷ []
+    → SpellsNothing (StringText token.octets) fault → place ≡ 0 → kind ≡ tail_kind fault tails.Quoted → QuotedFault tokens place kind
+quoted_fault tokens token spell.Invalid place kind one none at is = subst (QuotedFault tokens place) (sym is) (
+  at,
+  refl,
+  ap length one,
+  λ octets found.
+      let same : found.token ≡ token = let both : ◌≡◌ {A = List TokenText} (found.token ∷ []) (token ∷ []) = sym found.one ∙ one in cc in
+      none octets (subst (λ t. StringText t.octets octets) same found.text),
+)
+quoted_fault tokens token spell.OutOfMemory place kind one none at is = subst (QuotedFault tokens place) (sym is) tt

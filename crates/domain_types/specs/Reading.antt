@@ -1,6 +1,6 @@
 -- Data of a type in presentation format: the octets that tokens spell, and the first fault (RFC
 -- 1035, section 5.1; RFC 3597, section 5).
-use Rattle.std.specs.Prelude.{◌≡◌, ℕ, suc, ◌+◌, ◌<◌, ◌≤◌, ◌⊎◌, ◌==◌, ◌&&◌, Bool, true, false, not, List, [], ◌∷◌, ◌++◌, length, map, codes, if◌then◌else◌}
+use Rattle.std.specs.Prelude.{◌≡◌, ℕ, suc, ◌+◌, ◌<◌, ◌≤◌, ◌⊎◌, ◌==◌, ◌&&◌, Bool, true, false, not, List, [], ◌∷◌, ◌++◌, length, map, drop, codes, if◌then◌else◌}
 use Rattle.std.specs.List.{concat, AllByRecursion}
 use Rattle.domain_octets.specs.Octets.{Octets}
 use Rattle.domain_names.specs.Name.{Name}
@@ -11,6 +11,8 @@ use Rattle.domain_types.specs.{Canonical.IsData, Spelling.{FieldText, StringText
 use Rattle.domain_types.specs.declared.field.Field.{Field, TheVariants.CharacterString}
 use Rattle.domain_types.specs.declared.field.Tail.{Tail}
 use Rattle.domain_types.specs.declared.field.Tail.TheVariants as tails
+use Rattle.domain_types.specs.declared.spell.SpellFault.{SpellFault}
+use Rattle.domain_types.specs.declared.spell.SpellFault.TheVariants as spell
 use Rattle.domain_types.specs.declared.token.Token.{Token}
 use Rattle.domain_types.specs.declared.token.DataFaultKind.{DataFaultKind, TheVariants.{Missing, Extra, Quoted, NotField, NotTail, NoText, NotGeneric, NotData, OutOfMemory}}
 
@@ -71,11 +73,25 @@ ManyFault origin field (token ∷ tokens) place kind =
 
 -- ---- tails
 
+abbrev pub AreUnquoted : List TokenText → Type 0
+AreUnquoted tokens = AllByRecursion (λ token. token.is_quoted ≡ false) tokens
+
 -- tokens without quotes, at least one, whose octets together are a text of the codec
 pub record BaseTexts (codec : Codec) (tokens : List TokenText) (octets : Octets) : Type 0 where
   pub some : 0 < length tokens
-  pub unquoted : AllByRecursion (λ token. token.is_quoted ≡ false) tokens
+  pub unquoted : AreUnquoted tokens
   pub decodes : Decodes codec (concat (texts tokens)) octets
+
+-- the kind of the fault of tokens that do not spell a tail
+abbrev pub tail_kind : SpellFault → Tail → DataFaultKind
+tail_kind spell.Invalid tail = NotTail tail
+tail_kind spell.OutOfMemory tail = OutOfMemory
+
+-- one token that spells a string, with quotes or without
+pub record QuotedTexts (tokens : List TokenText) (octets : Octets) : Type 0 where
+  pub token : TokenText
+  pub one : tokens ≡ token ∷ []
+  pub text : StringText token.octets octets
 
 -- the tokens spell the octets of this tail; the kinds without a text of their own are spelled by no
 -- tokens: their data are read in the generic form
@@ -83,8 +99,7 @@ abbrev pub TailTexts : Name → Tail → List TokenText → Octets → Type 0
 TailTexts origin tails.Nothing tokens octets = (tokens ≡ []) × (octets ≡ [])
 TailTexts origin tails.Base16 tokens octets = BaseTexts codecs.Base16 tokens octets
 TailTexts origin tails.Base64 tokens octets = BaseTexts codecs.Base64 tokens octets
-TailTexts origin tails.Quoted tokens octets =
-    (length tokens ≡ 1) × StringText (concat (texts tokens)) octets
+TailTexts origin tails.Quoted tokens octets = QuotedTexts tokens octets
 TailTexts origin tails.Opaque tokens octets = ⊥
 TailTexts origin tails.Types tokens octets = ⊥
 TailTexts origin (tails.Many field) tokens octets = ManyTexts origin field tokens octets
@@ -108,7 +123,7 @@ QuotedFault tokens place Missing = (place ≡ 0) × (tokens ≡ [])
 QuotedFault tokens place Extra = (place ≡ 1) × (1 < length tokens)
 QuotedFault tokens place (NotTail other) =
     (place ≡ 0) × (other ≡ tails.Quoted) × (length tokens ≡ 1)
-    × ((octets : Octets) → StringText (concat (texts tokens)) octets → ⊥)
+    × ((octets : Octets) → QuotedTexts tokens octets → ⊥)
 QuotedFault tokens place OutOfMemory = Unit {0}
 QuotedFault tokens place kind = ⊥
 
@@ -148,3 +163,60 @@ LayoutFault origin (field ∷ more) tail (token ∷ tokens) place kind =
     ((place ≡ 0) × TokenFault origin field token kind)
     ⊎ (((part : Octets) × Spells origin field token part)
     × ((before : ℕ) × (place ≡ before + 1) × LayoutFault origin more tail tokens before kind))
+
+-- the first tokens up to `place` spell the fields up to it, and their octets were appended; what is
+-- left of the tokens decides about the rest
+pub record AreRead (origin : Name) (layout : List Field) (tokens : List TokenText) (place : ℕ)
+    (old now : Octets) : Type 0 where
+  pub part : Octets
+  pub appended : now ≡ old ++ part
+  pub back : (tail : Tail) (after : Octets)
+      → LayoutTexts origin (drop place layout) tail (drop place tokens) after
+      → LayoutTexts origin layout tail tokens (part ++ after)
+  pub fault : (tail : Tail) (later : ℕ) (kind : DataFaultKind)
+      → LayoutFault origin (drop place layout) tail (drop place tokens) later kind
+      → LayoutFault origin layout tail tokens (place + later) kind
+
+-- ---- the generic form (RFC 3597, section 5)
+
+-- the first token is the mark \# of the generic form, without quotes
+abbrev pub IsMarked : List TokenText → Type 0
+IsMarked [] = ⊥
+IsMarked (token ∷ tokens) = (token.is_quoted ≡ false) × (token.octets ≡ codes "\\#")
+
+-- the number of octets, and the octets in Base 16, in any number of tokens
+pub record GenericTexts (tokens : List TokenText) (octets : Octets) : Type 0 where
+  pub count : TokenText
+  pub digits : List TokenText
+  pub parts : tokens ≡ count ∷ digits
+  pub unquoted : AreUnquoted tokens
+  pub number : IsNumber 16 count.octets (length octets)
+  pub decodes : Decodes codecs.Base16 (concat (texts digits)) octets
+
+-- the fault of tokens after the mark
+abbrev pub GenericFault : ℕ → List TokenText → ℕ → DataFaultKind → Type 0
+GenericFault t tokens place NotGeneric =
+    (place ≡ 1) × ((octets : Octets) → GenericTexts tokens octets → ⊥)
+GenericFault t tokens place NotData =
+    (place ≡ 1) × ((octets : Octets) × GenericTexts tokens octets × (IsData t octets → ⊥))
+GenericFault t tokens place OutOfMemory = Unit {0}
+GenericFault t tokens place kind = ⊥
+
+-- ---- data of a type
+
+-- the tokens spell data of the type: in the generic form, or by the fields of its row
+pub data DataTexts (origin : Name) (t : ℕ) (tokens : List TokenText) (octets : Octets)
+    : Type 0 where
+  generic : IsMarked tokens → GenericTexts (drop 1 tokens) octets → IsData t octets
+      → DataTexts origin t tokens octets
+  own : (IsMarked tokens → ⊥) → LayoutTexts origin (fields_of t) (tail_of t) tokens octets
+      → DataTexts origin t tokens octets
+
+-- the first fault of tokens that have to spell data of the type, by its place
+pub data DataTextFault (origin : Name) (t : ℕ) (tokens : List TokenText) (place : ℕ)
+    (kind : DataFaultKind) : Type 0 where
+  in_generic : IsMarked tokens → GenericFault t (drop 1 tokens) place kind
+      → DataTextFault origin t tokens place kind
+  in_own : (IsMarked tokens → ⊥)
+      → LayoutFault origin (fields_of t) (tail_of t) tokens place kind
+      → DataTextFault origin t tokens place kind

@@ -4,13 +4,24 @@ ghost use Rattle.domain_octets.specs.Octets.{Octets};
 ghost use Rattle.domain_types.specs.Spelling.{FieldText};
 ghost use Rattle.domain_types.specs.Reading.{token_text, may_be_quoted, is_misquoted, Spells};
 ghost use Rattle.domain_types.specs.Reading.{TokenFault, ManyTexts, ManyFault, Grows};
+ghost use Rattle.domain_types.specs.Reading.{LayoutFault, AreRead, AreUnquoted, texts};
+ghost use Rattle.domain_types.specs.Reading.{BaseTexts, BaseFault, QuotedTexts, QuotedFault, tail_kind};
+ghost use Rattle.domain_codecs.specs.declared.codec.Codec.{Codec};
+ghost use Rattle.domain_types.specs.Spelling.{SpellsNothing, StringText};
+ghost use Rattle.domain_types.specs.declared.field.Tail.{Tail};
+ghost use Rattle.domain_codecs.specs.Codec.{Decodes};
+ghost use Rattle.domain_codecs.specs.declared.codec.Codec.TheVariants as codecs;
+ghost use Rattle.std.specs.{List.concat, Prelude.MatchOption};
 
 use crate::field::{Field, Tail};
-use crate::spell::{SpellFault, spell};
+use crate::spell::{SpellFault, spell, string_octet};
 use crate::token::{DataFault, DataFaultKind, Token};
+use base64::DecodeAllocError;
+use base64::engine::general_purpose::STANDARD;
 use domain_base::ParsedName;
 use domain_octets::Octets;
-use std::alloc::Global;
+use hex::FromHexError;
+use std::alloc::{AllocError, Global};
 
 /// Returns whether quotes are around a token that has to spell a field without quotes.
 fn is_misquoted(field: Field, token: &Token<'_>) -> bool
@@ -68,4 +79,210 @@ fn put_many(
         }
     }
     Ok(())
+}
+
+/// Appends the fields that the first tokens spell, one each.
+fn put_fields(
+    alloc: Global,
+    fields: &[Field],
+    tokens: &[Token<'_>],
+    origin: &ParsedName<'_>,
+    out: &mut Vec<u8>,
+) -> Result<(), DataFault>
+    ensures ok { OnOk result (AreRead origin.now fields.now (map token_text tokens.now)
+        (length fields.now) out.old.items out.new.items) }
+    ensures inside { OnOk result (length fields.now ≤ length tokens.now) }
+    ensures err { IfErr result (λ e. (tail : Tail)
+        → LayoutFault origin.now fields.now tail (map token_text tokens.now) e.token e.kind) }
+    ensures grows { Grows out.old.items out.new.items }
+{
+    for (place, field) in fields.iter().enumerate() {
+        if place >= tokens.len() {
+            let kind = DataFaultKind::Missing;
+            return Err(DataFault { token: place, kind });
+        }
+        if let Err(kind) = put_field(alloc, *field, &tokens[place], origin, out) {
+            return Err(DataFault { token: place, kind });
+        }
+    }
+    Ok(())
+}
+
+/// Returns the octets of tokens without quotes, joined, or None if one has quotes.
+fn join_tokens(alloc: Global, tokens: &[Token<'_>]) -> Result<Option<Vec<u8>>, AllocError>
+    ensures { IfOk result (λ found. MatchOption found
+        (AreUnquoted (map token_text tokens.now) → ⊥)
+        (λ text. AreUnquoted (map token_text tokens.now)
+        × (text.items ≡ concat (texts (map token_text tokens.now))))) }
+{
+    let mut text = Vec::new(alloc);
+    for token in tokens {
+        if token.is_quoted {
+            return Ok(None);
+        }
+        text.extend_from_slice(token.octets)?;
+    }
+    Ok(Some(text))
+}
+
+/// Returns the octets that a text in Base 16 encodes.
+fn decode16(alloc: Global, text: &[u8]) -> Result<Vec<u8>, SpellFault>
+    ensures ok { IfOk result (λ octets. Decodes codecs.Base16 text.now octets.items) }
+    ensures err { IfErr result (SpellsNothing (Decodes codecs.Base16 text.now)) }
+{
+    match hex::decode(alloc, text) {
+        Ok(octets) => Ok(octets),
+        Err(FromHexError::OutOfMemory) => Err(SpellFault::OutOfMemory),
+        Err(_) => Err(SpellFault::Invalid),
+    }
+}
+
+/// Returns the octets that a text in Base 64 encodes.
+fn decode64(alloc: Global, text: &[u8]) -> Result<Vec<u8>, SpellFault>
+    ensures ok { IfOk result (λ octets. Decodes codecs.Base64 text.now octets.items) }
+    ensures err { IfErr result (SpellsNothing (Decodes codecs.Base64 text.now)) }
+{
+    match STANDARD.decode(alloc, text) {
+        Ok(octets) => Ok(octets),
+        Err(DecodeAllocError::OutOfMemory) => Err(SpellFault::OutOfMemory),
+        Err(DecodeAllocError::DecodeError(_)) => Err(SpellFault::Invalid),
+    }
+}
+
+/// Appends the octets of the string that a text spells.
+fn put_string(text: &[u8], out: &mut Vec<u8>) -> Result<(), SpellFault>
+    ensures ok { OnOk result ((string : Octets) × StringText text.now string
+        × (out.new.items ≡ out.old.items ++ string)) }
+    ensures err { IfErr result (SpellsNothing (StringText text.now)) }
+    ensures grows { Grows out.old.items out.new.items }
+{
+    let mut rest = text;
+    'octets: while let Some((octet, used)) = string_octet(rest) {
+        if out.push(octet).is_err() {
+            return Err(SpellFault::OutOfMemory);
+        }
+        rest = &rest[used..];
+    }
+    if rest.is_empty() {
+        Ok(())
+    } else {
+        Err(SpellFault::Invalid)
+    }
+}
+
+/// Appends octets.
+fn append(octets: &[u8], out: &mut Vec<u8>) -> Result<(), DataFault>
+    ensures ok { OnOk result (out.new.items ≡ out.old.items ++ octets.now) }
+    ensures err { IfErr result (λ e. (e.token ≡ 0) × (e.kind ≡ DataFaultKind.OutOfMemory)) }
+    ensures same { OnErr result (out.new.items ≡ out.old.items) }
+{
+    match out.extend_from_slice(octets) {
+        Ok(()) => Ok(()),
+        Err(_) => Err(first(DataFaultKind::OutOfMemory)),
+    }
+}
+
+/// Returns a fault of the first token.
+fn first(kind: DataFaultKind) -> DataFault
+    ensures { result ≡ record { token = 0; kind = kind } }
+{
+    DataFault { token: 0, kind }
+}
+
+/// Returns the fault of tokens that do not spell a tail.
+fn fault_of(fault: SpellFault, tail: Tail) -> DataFault
+    ensures { (result.token ≡ 0) × (result.kind ≡ tail_kind fault tail) }
+{
+    match fault {
+        SpellFault::Invalid => first(DataFaultKind::NotTail(tail)),
+        SpellFault::OutOfMemory => first(DataFaultKind::OutOfMemory),
+    }
+}
+
+/// Returns the text of tokens that have to be one text of a codec.
+fn base_text(alloc: Global, tail: Tail, tokens: &[Token<'_>]) -> Result<Vec<u8>, DataFault>
+    ensures some { IfOk result (λ _. 0 < length tokens.now) }
+    ensures unquoted { IfOk result (λ _. AreUnquoted (map token_text tokens.now)) }
+    ensures text { IfOk result (λ text. text.items ≡ concat (texts (map token_text tokens.now))) }
+    ensures err { IfErr result (λ e. (codec : Codec)
+        → BaseFault codec tail (map token_text tokens.now) e.token e.kind) }
+    ensures place { IfErr result (λ e. e.token ≡ 0) }
+{
+    if tokens.is_empty() {
+        return Err(first(DataFaultKind::Missing));
+    }
+    match join_tokens(alloc, tokens) {
+        Ok(Some(text)) => Ok(text),
+        Ok(None) => Err(first(DataFaultKind::NotTail(tail))),
+        Err(_) => Err(first(DataFaultKind::OutOfMemory)),
+    }
+}
+
+/// Appends the octets that tokens encode in Base 16.
+#[tactic(auto, using(std::proofs::lemmas::Grind::common_steps, crate::proofs::ReadLemmas::base_texts, crate::proofs::ReadLemmas::base_fault))]
+fn put_base16(alloc: Global, tokens: &[Token<'_>], out: &mut Vec<u8>) -> Result<(), DataFault>
+    ensures ok { OnOk result ((part : Octets)
+        × BaseTexts codecs.Base16 (map token_text tokens.now) part
+        × (out.new.items ≡ out.old.items ++ part)) }
+    ensures err { IfErr result (λ e.
+        BaseFault codecs.Base16 Tail.Base16 (map token_text tokens.now) e.token e.kind) }
+    ensures place { IfErr result (λ e. e.token ≡ 0) }
+    ensures grows { Grows out.old.items out.new.items }
+{
+    let text = match base_text(alloc, Tail::Base16, tokens) {
+        Ok(text) => text,
+        Err(fault) => return Err(fault),
+    };
+    match decode16(alloc, text.as_slice()) {
+        Ok(octets) => match append(octets.as_slice(), out) {
+            Ok(()) => Ok(()),
+            Err(fault) => Err(fault),
+        },
+        Err(fault) => Err(fault_of(fault, Tail::Base16)),
+    }
+}
+
+/// Appends the octets that tokens encode in Base 64.
+#[tactic(auto, using(std::proofs::lemmas::Grind::common_steps, crate::proofs::ReadLemmas::base_texts, crate::proofs::ReadLemmas::base_fault))]
+fn put_base64(alloc: Global, tokens: &[Token<'_>], out: &mut Vec<u8>) -> Result<(), DataFault>
+    ensures ok { OnOk result ((part : Octets)
+        × BaseTexts codecs.Base64 (map token_text tokens.now) part
+        × (out.new.items ≡ out.old.items ++ part)) }
+    ensures err { IfErr result (λ e.
+        BaseFault codecs.Base64 Tail.Base64 (map token_text tokens.now) e.token e.kind) }
+    ensures place { IfErr result (λ e. e.token ≡ 0) }
+    ensures grows { Grows out.old.items out.new.items }
+{
+    let text = match base_text(alloc, Tail::Base64, tokens) {
+        Ok(text) => text,
+        Err(fault) => return Err(fault),
+    };
+    match decode64(alloc, text.as_slice()) {
+        Ok(octets) => match append(octets.as_slice(), out) {
+            Ok(()) => Ok(()),
+            Err(fault) => Err(fault),
+        },
+        Err(fault) => Err(fault_of(fault, Tail::Base64)),
+    }
+}
+
+/// Appends the octets of the one string that tokens spell.
+fn put_quoted(tokens: &[Token<'_>], out: &mut Vec<u8>) -> Result<(), DataFault>
+    ensures ok { OnOk result ((part : Octets) × QuotedTexts (map token_text tokens.now) part
+        × (out.new.items ≡ out.old.items ++ part)) }
+    ensures err { IfErr result (λ e. QuotedFault (map token_text tokens.now) e.token e.kind) }
+    ensures place { IfErr result (λ e. e.token ≤ length tokens.now) }
+    ensures grows { Grows out.old.items out.new.items }
+{
+    if tokens.is_empty() {
+        return Err(first(DataFaultKind::Missing));
+    }
+    if tokens.len() > 1 {
+        let kind = DataFaultKind::Extra;
+        return Err(DataFault { token: 1, kind });
+    }
+    match put_string(tokens[0].octets, out) {
+        Ok(()) => Ok(()),
+        Err(fault) => Err(fault_of(fault, Tail::Quoted)),
+    }
 }

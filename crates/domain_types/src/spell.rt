@@ -179,7 +179,7 @@ fn spell_name(alloc: Global, text: &[u8], origin: &ParsedName<'_>) -> Result<Par
 /// Returns the octet that a text of a string begins with, and the number of characters that spell
 /// it.
 #[tactic(auto, unfolding(crate::specs::Spelling::string_octet))]
-fn string_octet(text: &[u8]) -> Option<(u8, usize)>
+pub(crate) fn string_octet(text: &[u8]) -> Option<(u8, usize)>
     ensures value { result ≡ string_octet text.now }
     ensures used { IfSome result (λ s. (0 < s.1) × (s.1 ≤ length text.now)) }
 {
