@@ -173,3 +173,11 @@ quoted_fault tokens token spell.Invalid place kind one none at is = subst (Quote
       none octets (subst (λ t. StringText t.octets octets) same found.text),
 )
 quoted_fault tokens token spell.OutOfMemory place kind one none at is = subst (QuotedFault tokens place) (sym is) tt
+
+pub nothing_left : (tokens : List Token) → length tokens ≡ 0 → map token_text tokens ≡ []
+nothing_left [] none = refl
+nothing_left (t ∷ tokens) none = absurd (omega (arith, none))
+
+pub ruleset tail_steps = (common_steps, nothing_left)
+
+pub ruleset generic_steps = (common_steps)

@@ -75,7 +75,7 @@ fn after_type(text: &[u8]) -> Option<&[u8]>
 }
 
 /// Returns the number of at most 16 bits that decimal digits spell.
-fn number_of(digits: &[u8]) -> Option<u16>
+pub(crate) fn number_of(digits: &[u8]) -> Option<u16>
     ensures some { IfSome result (IsNumber 16 digits.now) }
     ensures none { IfNone result ((n : ℕ) → IsNumber 16 digits.now n → ⊥) }
 {

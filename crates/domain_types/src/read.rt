@@ -1,10 +1,11 @@
 //! Reading data of a type from tokens.
-ghost use Rattle.std.specs.Prelude.{◌≡◌, ◌+◌, ◌++◌, ◌<◌, ◌≤◌, ℕ, [], length, map, drop, true, false, IfOk, IfErr, OnErr, OnOk};
+ghost use Rattle.std.specs.Prelude.{◌≡◌, ◌+◌, ◌++◌, ◌<◌, ◌≤◌, ℕ, [], length, map, drop, true, false, IfOk, IfErr, OnErr, OnOk, IsTrue, ◌↔◌};
 ghost use Rattle.domain_octets.specs.Octets.{Octets};
 ghost use Rattle.domain_types.specs.Spelling.{FieldText};
 ghost use Rattle.domain_types.specs.Reading.{token_text, may_be_quoted, is_misquoted, Spells};
 ghost use Rattle.domain_types.specs.Reading.{TokenFault, ManyTexts, ManyFault, Grows};
 ghost use Rattle.domain_types.specs.Reading.{LayoutFault, AreRead, AreUnquoted, texts};
+ghost use Rattle.domain_types.specs.Reading.{TailTexts, TailFault, LayoutTexts, IsMarked, GenericTexts};
 ghost use Rattle.domain_types.specs.Reading.{BaseTexts, BaseFault, QuotedTexts, QuotedFault, tail_kind};
 ghost use Rattle.domain_codecs.specs.declared.codec.Codec.{Codec};
 ghost use Rattle.domain_types.specs.Spelling.{SpellsNothing, StringText};
@@ -14,7 +15,9 @@ ghost use Rattle.domain_codecs.specs.declared.codec.Codec.TheVariants as codecs;
 ghost use Rattle.std.specs.{List.concat, Prelude.MatchOption};
 
 use crate::field::{Field, Tail};
+use crate::lookup::number_of;
 use crate::spell::{SpellFault, spell, string_octet};
+use crate::table::Row;
 use crate::token::{DataFault, DataFaultKind, Token};
 use base64::DecodeAllocError;
 use base64::engine::general_purpose::STANDARD;
@@ -71,6 +74,7 @@ fn put_many(
         × (out.new.items ≡ out.old.items ++ part)) }
     ensures err { IfErr result (λ e.
         ManyFault origin.now field (map token_text tokens.now) e.token e.kind) }
+    ensures place { IfErr result (λ e. e.token ≤ length tokens.now) }
     ensures grows { Grows out.old.items out.new.items }
 {
     for (place, token) in tokens.iter().enumerate() {
@@ -285,4 +289,106 @@ fn put_quoted(tokens: &[Token<'_>], out: &mut Vec<u8>) -> Result<(), DataFault>
         Ok(()) => Ok(()),
         Err(fault) => Err(fault_of(fault, Tail::Quoted)),
     }
+}
+
+/// Appends what follows the fields, which tokens spell.
+#[tactic(auto, using(std::proofs::lemmas::Grind::common_steps, crate::proofs::ReadLemmas::tail_steps))]
+fn put_tail(
+    alloc: Global,
+    tail: Tail,
+    tokens: &[Token<'_>],
+    origin: &ParsedName<'_>,
+    out: &mut Vec<u8>,
+) -> Result<(), DataFault>
+    ensures ok { OnOk result ((part : Octets)
+        × TailTexts origin.now tail (map token_text tokens.now) part
+        × (out.new.items ≡ out.old.items ++ part)) }
+    ensures err { IfErr result (λ e.
+        TailFault origin.now tail (map token_text tokens.now) e.token e.kind) }
+    ensures place { IfErr result (λ e. e.token ≤ length tokens.now) }
+    ensures grows { Grows out.old.items out.new.items }
+{
+    match tail {
+        Tail::Nothing if tokens.is_empty() => Ok(()),
+        Tail::Nothing => Err(first(DataFaultKind::Extra)),
+        Tail::Base16 => put_base16(alloc, tokens, out),
+        Tail::Base64 => put_base64(alloc, tokens, out),
+        Tail::Quoted => put_quoted(tokens, out),
+        Tail::Opaque => Err(first(DataFaultKind::NoText)),
+        Tail::Types => Err(first(DataFaultKind::NoText)),
+        Tail::Many(field) => put_many(alloc, field, tokens, origin, out),
+        Tail::AtLeastOne(_) if tokens.is_empty() => Err(first(DataFaultKind::Missing)),
+        Tail::AtLeastOne(field) => put_many(alloc, field, tokens, origin, out),
+        Tail::AtMostOne(_) if tokens.len() > 1 => {
+            let kind = DataFaultKind::Extra;
+            Err(DataFault { token: 1, kind })
+        }
+        Tail::AtMostOne(field) => put_many(alloc, field, tokens, origin, out),
+    }
+}
+
+/// Appends the fields of a row and what follows them, which tokens spell.
+fn put_layout(
+    alloc: Global,
+    row: &Row,
+    tokens: &[Token<'_>],
+    origin: &ParsedName<'_>,
+    out: &mut Vec<u8>,
+) -> Result<(), DataFault>
+    ensures ok { OnOk result ((part : Octets)
+        × LayoutTexts origin.now row.now.2.now row.now.3 (map token_text tokens.now) part
+        × (out.new.items ≡ out.old.items ++ part)) }
+    ensures err { IfErr result (λ e.
+        LayoutFault origin.now row.now.2.now row.now.3 (map token_text tokens.now) e.token e.kind) }
+    ensures grows { Grows out.old.items out.new.items }
+{
+    if let Err(fault) = put_fields(alloc, row.2, tokens, origin, out) {
+        return Err(fault);
+    }
+    let count = row.2.len();
+    match put_tail(alloc, row.3, &tokens[count..], origin, out) {
+        Ok(()) => Ok(()),
+        Err(fault) => Err(DataFault {
+            token: count + fault.token,
+            kind: fault.kind,
+        }),
+    }
+}
+
+/// Returns whether the first token is the mark of the generic form.
+fn is_marked(tokens: &[Token<'_>]) -> bool
+    ensures { IsTrue result ↔ IsMarked (map token_text tokens.now) }
+{
+    if tokens.is_empty() {
+        return false;
+    }
+    !tokens[0].is_quoted && tokens[0].octets == b"\\#".as_slice()
+}
+
+/// Returns the octets that the tokens after the mark spell, and None if memory ran out.
+#[tactic(auto, using(std::proofs::lemmas::Grind::common_steps, crate::proofs::ReadLemmas::generic_steps))]
+fn generic_octets(alloc: Global, tokens: &[Token<'_>]) -> Result<Vec<u8>, SpellFault>
+    ensures ok { IfOk result (λ octets.
+        GenericTexts (map token_text tokens.now) octets.items) }
+    ensures err { IfErr result (SpellsNothing (GenericTexts (map token_text tokens.now))) }
+{
+    if tokens.is_empty() || tokens[0].is_quoted {
+        return Err(SpellFault::Invalid);
+    }
+    let Some(count) = number_of(tokens[0].octets) else {
+        return Err(SpellFault::Invalid);
+    };
+    let text = match join_tokens(alloc, &tokens[1..]) {
+        Ok(Some(text)) => text,
+        Ok(None) => return Err(SpellFault::Invalid),
+        Err(_) => return Err(SpellFault::OutOfMemory),
+    };
+    let octets = match decode16(alloc, text.as_slice()) {
+        Ok(octets) => octets,
+        Err(fault) => return Err(fault),
+    };
+    if octets.len() != usize::from(count) {
+        return Err(SpellFault::Invalid);
+    }
+    Ok(octets)
 }

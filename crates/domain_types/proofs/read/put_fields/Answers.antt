@@ -29,12 +29,8 @@ loop-place-preserved c =
     let place = c.loop-place.place in
     let token = get_or c.args.tokens.now place first_token in
     let below : place < length tokens = subst (λ n. place < n) (sym (length-map c.args.tokens.now token_text)) (omega arith) in
-    let ok = c.in_default.ensures.ok in (
-      (
-        layout_next c.args.origin.now fields tokens place (get_or fields place Number8) Number8 (token_text token) ok.0 c.args.out.now.items
-            c.loop-place.out.items c.put_field.new.out.items c.loop-place-test.true refl below (token_at c.args.tokens.now place first_token (omega arith))
-            c.loop-place.invariant.0 ok.1 ok.2,
-        omega arith,
-      ),
-      omega arith,
-    )
+    let ok = c.in_default.ensures.ok in
+    let next = layout_next c.args.origin.now fields tokens place (get_or fields place Number8) Number8 (token_text token) ok.0 c.args.out.now.items
+    c.loop-place.out.items c.put_field.new.out.items c.loop-place-test.true refl below (token_at c.args.tokens.now place first_token (omega arith))
+    c.loop-place.invariant.0 ok.1 ok.2 in
+    (next, omega arith)
