@@ -1,14 +1,14 @@
 -- Data that tokens spell.
 use Rattle.std.proofs.Common.{◌≡◌, ℕ, zero, suc, ◌+◌, ◌-◌, ◌<◌, ◌≤◌, List, [], ◌∷◌, ◌++◌, length, get_or, take, drop, map, refl, sym, ap, ◌∙◌, subst, arith, length-append, inl, inr, true, false, add-one, drop-cons}
-use Rattle.std.proofs.lemmas.{Grind.common_steps, List.{append_assoc, append-nil}}
+use Rattle.std.proofs.lemmas.{Grind.common_steps, List.{append_assoc, append-nil, take_rest}}
 use Rattle.domain_octets.specs.Octets.{Octets}
 use Rattle.domain_names.specs.Name.{Name}
 use Rattle.domain_types.specs.Spelling.{FieldText}
 use Rattle.domain_types.specs.declared.token.Token.{Token}
-use Rattle.domain_types.specs.Reading.{TokenText, token_text, is_misquoted, Spells, TokenFault, ManyTexts, ManyFault, Grows, LayoutTexts, LayoutFault, AreRead, AreUnquoted, texts, BaseTexts, BaseFault, QuotedTexts, QuotedFault, tail_kind}
+use Rattle.domain_types.specs.Reading.{TokenText, token_text, is_misquoted, Spells, TokenFault, ManyTexts, ManyFault, Grows, LayoutTexts, LayoutFault, AreRead, AreUnquoted, texts, TailTexts, TailFault, IsMarked, BaseTexts, BaseFault, QuotedTexts, QuotedFault, tail_kind}
 use Rattle.domain_types.specs.Spelling.{SpellsNothing, StringText}
 use Rattle.domain_codecs.specs.{Codec.Decodes, declared.codec.Codec.Codec}
-use Rattle.std.specs.List.{concat}
+use Rattle.std.specs.{List.{concat}, Prelude.◌↔◌}
 use Rattle.domain_types.specs.declared.spell.SpellFault.{SpellFault}
 use Rattle.domain_types.specs.declared.spell.SpellFault.TheVariants as spell
 use Rattle.domain_types.specs.declared.field.Tail.TheVariants as tails
@@ -181,3 +181,41 @@ nothing_left (t ∷ tokens) none = absurd (omega (arith, none))
 pub ruleset tail_steps = (common_steps, nothing_left)
 
 pub ruleset generic_steps = (common_steps)
+
+-- ---- data
+
+drop_map : (tokens : List Token) (n : ℕ) → drop n (map token_text tokens) ≡ map token_text (drop n tokens)
+drop_map [] zero = refl
+drop_map [] (suc n) = refl
+drop_map (t ∷ tokens) zero = refl
+drop_map (t ∷ tokens) (suc n) = drop_map tokens n
+
+pub tokens_left : (tokens : List Token) (n : ℕ) → map token_text (take (length tokens - n) (drop n tokens)) ≡ drop n (map token_text tokens)
+tokens_left tokens n = ap (map token_text) (take_rest tokens n) ∙ sym (drop_map tokens n)
+
+pub layout_read : (origin : Name) (layout : List Field) (tail : Tail) (tokens left : List TokenText) (old now next part : List ℕ)
+    → AreRead origin layout tokens (length layout) old now → left ≡ drop (length layout) tokens → TailTexts origin tail left part → next ≡ now ++ part
+    → (all : List ℕ) × LayoutTexts origin layout tail tokens all × (next ≡ old ++ all)
+layout_read origin layout tail tokens left old now next part so left_is is next_is =
+    let none : drop (length layout) layout ≡ [] = grind (arith, common_steps) in
+    let rest : LayoutTexts origin (drop (length layout) layout) tail (drop (length layout) tokens) part =
+    subst (λ fs. LayoutTexts origin fs tail (drop (length layout) tokens) part) (sym none) (subst (λ ts. TailTexts origin tail ts part) left_is is) in
+    (so.part ++ part, so.back tail part rest, next_is ∙ ap (λ n. n ++ part) so.appended ∙ append_assoc old so.part part)
+
+pub layout_refused : (origin : Name) (layout : List Field) (tail : Tail) (tokens left : List TokenText) (old now : List ℕ) (place : ℕ) (kind : DataFaultKind)
+    → AreRead origin layout tokens (length layout) old now → left ≡ drop (length layout) tokens → TailFault origin tail left place kind
+    → LayoutFault origin layout tail tokens (length layout + place) kind
+layout_refused origin layout tail tokens left old now place kind so left_is is =
+    let none : drop (length layout) layout ≡ [] = grind (arith, common_steps) in
+    let rest : LayoutFault origin (drop (length layout) layout) tail (drop (length layout) tokens) place kind =
+    subst (λ fs. LayoutFault origin fs tail (drop (length layout) tokens) place kind) (sym none) (subst (λ ts. TailFault origin tail ts place kind) left_is is) in
+    so.fault tail place kind rest
+
+pub marked_at : (tokens : List Token) → 0 < length tokens → IsMarked (map token_text tokens)
+    ↔ (((get_or tokens 0 first_token).is_quoted ≡ false) × ((get_or tokens 0 first_token).octets.now ≡ 92 ∷ 35 ∷ []))
+marked_at [] some = absurd (omega (arith, some))
+marked_at (t ∷ tokens) some = (λ is. is, λ is. is)
+
+pub unmarked : (tokens : List Token) → length tokens ≡ 0 → IsMarked (map token_text tokens) → ⊥
+unmarked [] none is = is
+unmarked (t ∷ tokens) none is = omega (arith, none)

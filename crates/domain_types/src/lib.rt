@@ -16,4 +16,5 @@ pub use canonical::put_canonical;
 pub use data::is_data;
 pub use field::{Field, Tail};
 pub use lookup::{mnemonic, rtype_of};
+pub use read::read_data;
 pub use token::{DataFault, DataFaultKind, Token};

@@ -1,11 +1,13 @@
 //! Reading data of a type from tokens.
-ghost use Rattle.std.specs.Prelude.{◌≡◌, ◌+◌, ◌++◌, ◌<◌, ◌≤◌, ℕ, [], length, map, drop, true, false, IfOk, IfErr, OnErr, OnOk, IsTrue, ◌↔◌};
+ghost use Rattle.std.specs.Prelude.{◌≡◌, ◌+◌, ◌++◌, ◌<◌, ◌≤◌, ℕ, [], length, map, drop, true, false, IfOk, IfErr, OnErr, OnOk, IsTrue, ◌↔◌, codes};
 ghost use Rattle.domain_octets.specs.Octets.{Octets};
 ghost use Rattle.domain_types.specs.Spelling.{FieldText};
 ghost use Rattle.domain_types.specs.Reading.{token_text, may_be_quoted, is_misquoted, Spells};
 ghost use Rattle.domain_types.specs.Reading.{TokenFault, ManyTexts, ManyFault, Grows};
 ghost use Rattle.domain_types.specs.Reading.{LayoutFault, AreRead, AreUnquoted, texts};
 ghost use Rattle.domain_types.specs.Reading.{TailTexts, TailFault, LayoutTexts, IsMarked, GenericTexts};
+ghost use Rattle.domain_types.specs.Reading.{GenericFault, DataTexts, DataTextFault};
+ghost use Rattle.domain_types.specs.Canonical.{IsData};
 ghost use Rattle.domain_types.specs.Reading.{BaseTexts, BaseFault, QuotedTexts, QuotedFault, tail_kind};
 ghost use Rattle.domain_codecs.specs.declared.codec.Codec.{Codec};
 ghost use Rattle.domain_types.specs.Spelling.{SpellsNothing, StringText};
@@ -14,14 +16,15 @@ ghost use Rattle.domain_codecs.specs.Codec.{Decodes};
 ghost use Rattle.domain_codecs.specs.declared.codec.Codec.TheVariants as codecs;
 ghost use Rattle.std.specs.{List.concat, Prelude.MatchOption};
 
+use crate::data::is_data;
 use crate::field::{Field, Tail};
-use crate::lookup::number_of;
+use crate::lookup::{number_of, row_of};
 use crate::spell::{SpellFault, spell, string_octet};
 use crate::table::Row;
 use crate::token::{DataFault, DataFaultKind, Token};
 use base64::DecodeAllocError;
 use base64::engine::general_purpose::STANDARD;
-use domain_base::ParsedName;
+use domain_base::{ParsedName, Rtype};
 use domain_octets::Octets;
 use hex::FromHexError;
 use std::alloc::{AllocError, Global};
@@ -355,14 +358,21 @@ fn put_layout(
     }
 }
 
-/// Returns whether the first token is the mark of the generic form.
+/// Returns whether a text is the mark of the generic form.
+fn is_mark(text: &[u8]) -> bool
+    ensures { IsTrue result ↔ (text.now ≡ codes "\\#") }
+{
+    text == b"\\#".as_slice()
+}
+
+/// Returns whether the first token is the mark of the generic form, without quotes.
 fn is_marked(tokens: &[Token<'_>]) -> bool
     ensures { IsTrue result ↔ IsMarked (map token_text tokens.now) }
 {
-    if tokens.is_empty() {
+    if tokens.is_empty() || tokens[0].is_quoted {
         return false;
     }
-    !tokens[0].is_quoted && tokens[0].octets == b"\\#".as_slice()
+    is_mark(tokens[0].octets)
 }
 
 /// Returns the octets that the tokens after the mark spell, and None if memory ran out.
@@ -391,4 +401,97 @@ fn generic_octets(alloc: Global, tokens: &[Token<'_>]) -> Result<Vec<u8>, SpellF
         return Err(SpellFault::Invalid);
     }
     Ok(octets)
+}
+
+/// Appends the octets of the generic form, if they are data of the type.
+fn put_generic(
+    alloc: Global,
+    rtype: Rtype,
+    tokens: &[Token<'_>],
+    out: &mut Vec<u8>,
+) -> Result<(), DataFault>
+    ensures ok { OnOk result ((part : Octets) × GenericTexts (map token_text tokens.now) part
+        × IsData rtype part × (out.new.items ≡ out.old.items ++ part)) }
+    ensures err { IfErr result (λ e.
+        GenericFault rtype (map token_text tokens.now) e.token e.kind) }
+    ensures same { OnErr result (out.new.items ≡ out.old.items) }
+{
+    let octets = match generic_octets(alloc, tokens) {
+        Ok(octets) => octets,
+        Err(SpellFault::Invalid) => return Err(second(DataFaultKind::NotGeneric)),
+        Err(SpellFault::OutOfMemory) => return Err(second(DataFaultKind::OutOfMemory)),
+    };
+    if !is_data(rtype, octets.as_slice()) {
+        return Err(second(DataFaultKind::NotData));
+    }
+    match append(octets.as_slice(), out) {
+        Ok(()) => Ok(()),
+        Err(fault) => Err(fault),
+    }
+}
+
+/// Returns a fault of the second token.
+fn second(kind: DataFaultKind) -> DataFault
+    ensures { result ≡ record { token = 1; kind = kind } }
+{
+    DataFault { token: 1, kind }
+}
+
+/// Appends the data that tokens spell, in either form.
+#[tactic(auto, using(std::proofs::lemmas::Grind::common_steps, crate::specs::Reading::generic, crate::specs::Reading::own, crate::specs::Reading::in_generic, crate::specs::Reading::in_own))]
+fn put_data(
+    alloc: Global,
+    rtype: Rtype,
+    tokens: &[Token<'_>],
+    origin: &ParsedName<'_>,
+    out: &mut Vec<u8>,
+) -> Result<(), DataFault>
+    ensures ok { OnOk result ((part : Octets)
+        × DataTexts origin.now rtype (map token_text tokens.now) part
+        × (out.new.items ≡ out.old.items ++ part)) }
+    ensures err { IfErr result (λ e.
+        DataTextFault origin.now rtype (map token_text tokens.now) e.token e.kind) }
+    ensures grows { Grows out.old.items out.new.items }
+{
+    if is_marked(tokens) {
+        return match put_generic(alloc, rtype, &tokens[1..], out) {
+            Ok(()) => Ok(()),
+            Err(fault) => Err(fault),
+        };
+    }
+    match put_layout(alloc, &row_of(rtype), tokens, origin, out) {
+        Ok(()) => Ok(()),
+        Err(fault) => Err(fault),
+    }
+}
+
+/// Appends the data of a type that tokens spell: in the generic form, after the mark `\#` without
+/// quotes (RFC 3597, section 5), or by the fields of the type's row, one token each, and the tokens
+/// of what follows them. A name without a last dot is relative to the origin.
+///
+/// # Errors
+///
+/// The first fault, with the place of its token. `out` is then unchanged.
+pub fn read_data(
+    alloc: Global,
+    rtype: Rtype,
+    tokens: &[Token<'_>],
+    origin: &ParsedName<'_>,
+    out: &mut Vec<u8>,
+) -> Result<(), DataFault>
+    ensures ok { OnOk result ((part : Octets)
+        × DataTexts origin.now rtype (map token_text tokens.now) part
+        × (out.new.items ≡ out.old.items ++ part)) }
+    ensures err { IfErr result (λ e.
+        DataTextFault origin.now rtype (map token_text tokens.now) e.token e.kind) }
+    ensures same { OnErr result (out.new.items ≡ out.old.items) }
+{
+    let start = out.len();
+    match put_data(alloc, rtype, tokens, origin, out) {
+        Ok(()) => Ok(()),
+        Err(fault) => {
+            out.truncate(start);
+            Err(fault)
+        }
+    }
 }
