@@ -3,3 +3,4 @@ pub mod DataLemmas
 pub mod TableLemmas
 pub mod SpellLemmas
 pub mod ReadLemmas
+pub mod ReadLaws

@@ -61,8 +61,8 @@ pub enum Field {
 }
 
 /// How the octets of a field lie on the wire.
-#[derive(Clone, Copy, Debug, PartialEq, Eq)]
-pub enum Shape {
+#[derive(Clone, Copy)]
+pub(crate) enum Shape {
     /// This number of octets.
     Exactly(usize),
     /// A name.
@@ -84,7 +84,7 @@ pub enum Shape {
 }
 
 /// What follows the fields, up to the end of the data.
-#[derive(Clone, Copy, Debug, PartialEq, Eq)]
+#[derive(Clone, Copy, Debug)]
 pub enum Tail {
     /// Nothing.
     Nothing,
@@ -108,14 +108,14 @@ pub enum Tail {
 
 impl Field {
     /// Returns whether the canonical form lowers the field.
-    pub fn is_lowered(self) -> bool
+    pub(crate) fn is_lowered(self) -> bool
         ensures { result ≡ is_lowered self }
     {
         self == Field::LoweredName
     }
 
     /// Returns how the octets of the field lie on the wire.
-    pub fn shape(self) -> Shape
+    pub(crate) fn shape(self) -> Shape
         ensures { result ≡ shape_of self }
     {
         match self {

@@ -1,6 +1,6 @@
 //! Laws of the table, of data and of their canonical form. To use a law, call it in the body of
 //! your function.
-ghost use Rattle.std.specs.Prelude.{◌≡◌, ◌<◌, ◌^◌, ℕ, ◌++◌, ◌∷◌, Some, List, length, codes};
+ghost use Rattle.std.specs.Prelude.{◌≡◌, ◌≢◌, ◌<◌, ◌^◌, ℕ, ◌++◌, ◌∷◌, Some, List, length, codes};
 ghost use Rattle.std.specs.{List.AllByRecursion, Fmt.decimal};
 ghost use Rattle.domain_octets.specs.Octets.{Octets};
 ghost use Rattle.domain_names.specs.Name.{Name, IsName, wire_of, lowered};
@@ -9,6 +9,8 @@ ghost use Rattle.domain_types.specs.Fields.{IsField, AreFields};
 ghost use Rattle.domain_types.specs.Canonical.{IsData, lowered_part, lowered_fields, canonical_octets};
 ghost use Rattle.domain_types.specs.declared.field.Field.{Field, TheVariants.LoweredName};
 ghost use Rattle.domain_types.specs.declared.field.Tail.{Tail};
+ghost use Rattle.domain_types.specs.Reading.{TokenText, DataTexts, DataTextFault};
+ghost use Rattle.domain_types.specs.declared.token.DataFaultKind.{DataFaultKind, TheVariants.OutOfMemory};
 
 /// Each row of the table is the row of its number, so no number has two rows.
 #[tactic(auto, using(crate::proofs::TableLemmas::rows_stand))]
@@ -58,4 +60,18 @@ pub fn canonical_forms_are_data()
         → canonical_octets t (canonical_octets t octets) ≡ canonical_octets t octets }
     ensures size { (t : ℕ) (octets : Octets) → IsData t octets
         → length (canonical_octets t octets) ≡ length octets }
+{}
+
+/// What tokens spell as data of a type is data of the type, for every origin that is a name.
+#[tactic(auto, using(crate::proofs::ReadLaws::data_valid))]
+pub fn data_that_is_read_is_data()
+    ensures { (origin : Name) (t : ℕ) (tokens : List TokenText) (octets : Octets) → IsName origin
+        → DataTexts origin t tokens octets → IsData t octets }
+{}
+
+/// Tokens with a fault spell no data of the type. Lack of memory is no fault of the tokens.
+pub fn refused_tokens_spell_no_data()
+    ensures { (origin : Name) (t : ℕ) (tokens : List TokenText) (place : ℕ) (kind : DataFaultKind)
+        (octets : Octets) → DataTextFault origin t tokens place kind
+        → kind ≢ OutOfMemory → DataTexts origin t tokens octets → ⊥ }
 {}

@@ -25,7 +25,7 @@ pub(crate) type Part = ArrayBuilder<256>;
 const MAX_STRING: usize = 255;
 
 /// The reason why a token gives no field.
-#[derive(Clone, Copy, Debug)]
+#[derive(Clone, Copy)]
 pub(crate) enum SpellFault {
     /// The token does not spell a field of the kind.
     Invalid,
