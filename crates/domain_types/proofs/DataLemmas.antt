@@ -1,12 +1,11 @@
 -- Octets that are the fields of a layout.
-use Rattle.std.proofs.Common.{◌≡◌, ℕ, zero, suc, ◌+◌, ◌-◌, ◌*◌, ◌%◌, ◌<◌, ◌≤◌, List, [], ◌∷◌, ◌++◌, length, get_or, take, drop, refl, sym, ap, ◌∙◌, subst, arith, length-append, add-one, drop-cons, inl, inr, map}
-use Rattle.std.{specs.Prelude.{slice_index, IsTrue, ◌↔◌}, proofs.lemmas.{Grind.common_steps, List.{take_at, drop_at, append-nil, append_assoc, get_or-take, get_or_append_left, take-append-drop, length-take, length-map}, Bool.{cases_Bool, Decides.nat_tests}}}
+use Rattle.std.proofs.Common.{◌≡◌, ℕ, zero, suc, ◌+◌, ◌<◌, ◌≤◌, List, [], ◌∷◌, ◌++◌, length, get_or, take, drop, refl, sym, ap, ◌∙◌, subst, arith, length-append, add-one, drop-cons, inl, inr, map}
+use Rattle.std.{specs.Prelude.{◌↔◌}, proofs.lemmas.{Grind.common_steps, List.{take_at, drop_at, append-nil, append_assoc, take-append-drop, length-map}, Bool.{cases_Bool, Decides.nat_tests}}}
 use Rattle.std.specs.{List.{AllByRecursion}, Char.to_ascii_lowercase}
-use Rattle.domain_octets.specs.Octets.{Octets}
 use Rattle.domain_names.specs.{Name.{Name, IsName, IsLabel, wire_of, lowered}, Wire.{IsWire, labels_within, labels_of}}
 use Rattle.domain_names.proofs.{WireLemmas.{length-wire_of, length-wire, IsWire-wire_of, labels_of-wire_of}, OrderLemmas.{lowered_wire, IsName-lowered}}
-use Rattle.domain_types.specs.Fields.{shape_of, IsGateway, HasGateway, absent, ipv4, ipv6, named, IsWord, IsShape, IsField, BeginsWithNo}
-use Rattle.domain_types.specs.Fields.{AreMany, none, one_more, IsTail, AreFields}
+use Rattle.domain_types.specs.Fields.{shape_of, IsGateway, HasGateway, absent, ipv4, ipv6, named, IsShape, IsField, BeginsWithNo}
+use Rattle.domain_types.specs.Fields.{AreMany, none, one_more, AreFields}
 use Rattle.domain_types.specs.Canonical.{name_size, gateway_size, shape_size, field_size, is_lowered, lowered_part, lowered_fields, IsData, canonical_octets}
 use Rattle.domain_types.specs.Table.{fields_of, tail_of}
 use Rattle.domain_types.specs.declared.field.Field.{Field}

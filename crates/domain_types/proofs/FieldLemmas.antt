@@ -1,10 +1,9 @@
 -- Fields of octets: where they end.
-use Rattle.std.proofs.Common.{◌≡◌, ℕ, ◌+◌, ◌-◌, ◌*◌, ◌%◌, ◌<◌, ◌≤◌, List, [], ◌∷◌, ◌++◌, length, get_or, take, drop, refl, sym, ap, ◌∙◌, subst, arith, length-append}
-use Rattle.std.{specs.Prelude.{slice_index, IsTrue}, proofs.lemmas.{Grind.common_steps, List.{take_at, drop_at, drop-take, get_or-take, get_or_append_left, take-append-drop, length-take}}}
-use Rattle.std.specs.{List.AllByRecursion, Char.is_ascii_alphanumeric}
-use Rattle.domain_octets.specs.Octets.{Octets, Place, Takes}
+use Rattle.std.proofs.Common.{◌≡◌, ℕ, ◌<◌, ◌≤◌, List, ◌++◌, length, take, drop, sym, ap, ◌∙◌, subst, arith, length-append}
+use Rattle.std.{specs.Prelude.{slice_index}, proofs.lemmas.{Grind.common_steps, List.{take_at, drop_at, drop-take, get_or-take, get_or_append_left, take-append-drop, length-take}}}
+use Rattle.domain_octets.specs.Octets.{Place, Takes}
 use Rattle.domain_names.specs.{Name.{Name, IsName, wire_of}, Wire.{IsWire, NameFault, Fault, labels_of}}
-use Rattle.domain_names.proofs.WireLemmas.{IsWire-wire_of, no_name_fault, one_reading, length-wire}
+use Rattle.domain_names.proofs.WireLemmas.{IsWire-wire_of, no_name_fault}
 use Rattle.domain_types.specs.Fields.{IsGateway, HasGateway, absent, ipv4, ipv6, named, IsWord, IsShape, IsField, BeginsWithNo}
 
 -- ---- names

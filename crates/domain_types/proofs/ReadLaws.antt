@@ -1,14 +1,14 @@
 -- What tokens spell is data of the type, and tokens with a fault spell none.
-use Rattle.std.proofs.Common.{◌≡◌, ℕ, zero, suc, ◌+◌, ◌-◌, ◌*◌, ◌<◌, ◌≤◌, List, [], ◌∷◌, ◌++◌, length, drop, map, refl, sym, ap, ◌∙◌, subst, arith, length-append, inl, inr, true, false, ◌⊎◌}
+use Rattle.std.proofs.Common.{◌≡◌, ℕ, suc, ◌+◌, ◌-◌, ◌*◌, ◌<◌, ◌≤◌, List, [], ◌∷◌, ◌++◌, length, drop, refl, sym, ap, ◌∙◌, subst, arith, length-append, inl, inr, true, false, ◌⊎◌}
 use Rattle.std.proofs.lemmas.{Grind.common_steps, List.{append-nil, length-replicate}}
-use Rattle.std.specs.{Prelude.slice_index, Int.{w16, w32, to_be_bytes}, Net.{Grammar.{IsDotted, IsColonHex, IsIpv6Text, IsElided}, Addr.octets_of}}
-use Rattle.domain_names.specs.{Name.{Name, IsName, wire_of}, Wire.IsWire, Text.{NameText, root, of_labels}}
+use Rattle.std.specs.{Prelude.slice_index, Net.{Grammar.{IsColonHex}, Addr.octets_of}}
+use Rattle.domain_names.specs.{Name.{Name, IsName}, Wire.IsWire, Text.{NameText, root, of_labels}}
 use Rattle.domain_names.proofs.WireLemmas.{IsWire-wire_of}
 use Rattle.domain_types.specs.Fields.{IsField, AreMany, none, one_more, IsTail, AreFields}
-use Rattle.domain_types.specs.Spelling.{NameToken, at_origin, absolute, relative, NameField, ByteText, ShortText, LongText, TypeField, LongAddressText}
-use Rattle.domain_types.specs.Spelling.{StringField, TagText, PlainText, FieldText}
-use Rattle.domain_types.specs.Reading.{TokenText, is_misquoted, Spells, TokenFault, ManyTexts, ManyFault, TailTexts, TailFault, LayoutTexts, LayoutFault}
-use Rattle.domain_types.specs.Reading.{BaseFault, QuotedFault, BaseTexts, QuotedTexts, IsMarked, GenericTexts, GenericFault, DataTexts, generic, own}
+use Rattle.domain_types.specs.Spelling.{NameToken, at_origin, absolute, relative, NameField}
+use Rattle.domain_types.specs.Spelling.{PlainText, FieldText}
+use Rattle.domain_types.specs.Reading.{TokenText, Spells, TokenFault, ManyTexts, ManyFault, TailTexts, TailFault, LayoutTexts, LayoutFault}
+use Rattle.domain_types.specs.Reading.{BaseFault, QuotedFault, BaseTexts, QuotedTexts, GenericTexts, GenericFault, DataTexts, generic, own}
 use Rattle.domain_types.specs.Reading.{DataTextFault, in_generic, in_own}
 use Rattle.domain_types.specs.{Canonical.IsData, Table.{fields_of, tail_of}}
 use Rattle.domain_types.specs.declared.field.{Field.Field, Tail.Tail}

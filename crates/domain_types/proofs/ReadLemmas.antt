@@ -1,11 +1,10 @@
 -- Data that tokens spell.
-use Rattle.std.proofs.Common.{◌≡◌, ℕ, zero, suc, ◌+◌, ◌-◌, ◌<◌, ◌≤◌, List, [], ◌∷◌, ◌++◌, length, get_or, take, drop, map, refl, sym, ap, ◌∙◌, subst, arith, length-append, inl, inr, true, false, add-one, drop-cons}
+use Rattle.std.proofs.Common.{◌≡◌, ℕ, zero, suc, ◌+◌, ◌-◌, ◌<◌, ◌≤◌, List, [], ◌∷◌, ◌++◌, length, get_or, take, drop, map, refl, sym, ap, ◌∙◌, subst, arith, inl, inr, false, add-one, drop-cons}
 use Rattle.std.proofs.lemmas.{Grind.common_steps, List.{append_assoc, append-nil, take_rest}}
-use Rattle.domain_octets.specs.Octets.{Octets}
 use Rattle.domain_names.specs.Name.{Name}
 use Rattle.domain_types.specs.Spelling.{FieldText}
 use Rattle.domain_types.specs.declared.token.Token.{Token}
-use Rattle.domain_types.specs.Reading.{TokenText, token_text, is_misquoted, Spells, TokenFault, ManyTexts, ManyFault, Grows, LayoutTexts, LayoutFault, AreRead, AreUnquoted, texts, TailTexts, TailFault, IsMarked, BaseTexts, BaseFault, QuotedTexts, QuotedFault, tail_kind}
+use Rattle.domain_types.specs.Reading.{TokenText, token_text, Spells, TokenFault, ManyTexts, ManyFault, LayoutTexts, LayoutFault, AreRead, AreUnquoted, texts, TailTexts, TailFault, IsMarked, BaseTexts, BaseFault, QuotedFault, tail_kind}
 use Rattle.domain_types.specs.Spelling.{SpellsNothing, StringText}
 use Rattle.domain_codecs.specs.{Codec.Decodes, declared.codec.Codec.Codec}
 use Rattle.std.specs.{List.{concat}, Prelude.◌↔◌}

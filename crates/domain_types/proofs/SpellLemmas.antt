@@ -1,9 +1,8 @@
 -- The octets that tokens spell.
-use Rattle.std.proofs.Common.{◌≡◌, ℕ, zero, suc, ◌+◌, ◌-◌, ◌*◌, ◌<◌, ◌≤◌, List, [], ◌∷◌, ◌++◌, length, get_or, take, drop, refl, sym, ap, ◌∙◌, subst, arith, length-append, inl, inr, true, false, Some}
-use Rattle.std.{proofs.lemmas.{Grind.common_steps, Bool.{cases_Bool, Decides.nat_tests}, List.{append_assoc, take_at, take-append-le, append-nil, take-append-drop}, Str.IsUtf8-from_ascii}, specs.{List.AllByRecursion, Str.{IsAscii, IsUtf8}}}
-use Rattle.domain_octets.specs.Octets.{Octets}
+use Rattle.std.proofs.Common.{◌≡◌, ℕ, zero, suc, ◌+◌, ◌-◌, ◌<◌, ◌≤◌, List, [], ◌∷◌, ◌++◌, length, take, drop, refl, sym, ap, ◌∙◌, subst, arith, length-append, inl, inr, true, false, Some}
+use Rattle.std.{proofs.lemmas.{Grind.common_steps, Bool.{cases_Bool, Decides.nat_tests}, List.{append_assoc, append-nil, take-append-drop}, Str.IsUtf8-from_ascii}, specs.{List.AllByRecursion, Str.{IsAscii, IsUtf8}}}
 use Rattle.domain_names.specs.{Name.{Name, IsName, IsLabel, wire_of}, Wire.{IsWire, labels_of}}
-use Rattle.domain_names.proofs.WireLemmas.{length-wire_of, length-wire}
+use Rattle.domain_names.proofs.WireLemmas.{length-wire_of}
 use Rattle.std.proofs.Math.Seq.{take-append-add}
 use Rattle.std.proofs.Common.{None, Option}
 use Rattle.domain_types.specs.Spelling.{NameToken, at_origin, absolute, relative, NameField, ends_in_dot, string_octet, StringText, string_ends, string_goes}
@@ -12,7 +11,7 @@ use Rattle.domain_types.specs.declared.field.Field.{Field}
 use Rattle.domain_types.specs.declared.field.Field.TheVariants as fields
 use Rattle.domain_names.proofs.TextLemmas.{one_name}
 use Rattle.std.specs.{Prelude.{◌==◌, slice_index}, Char.is_ascii_digit}
-use Rattle.domain_names.specs.Text.{escape_at, decimal_at, is_printable, symbol_at, LabelText, ends, octet, LabelTexts, last, dotted, NameText, root, of_labels, IsBefore}
+use Rattle.domain_names.specs.Text.{escape_at, symbol_at, LabelText, ends, octet, LabelTexts, last, dotted, NameText, root, of_labels, IsBefore}
 
 -- ---- names before the origin
 

@@ -1,13 +1,13 @@
 -- Types by number and by mnemonic.
-use Rattle.std.proofs.Common.{◌≡◌, ℕ, ◌+◌, ◌<◌, List, [], ◌∷◌, arith, length, get_or, map, take, sym, ap, ◌∙◌, zero, suc}
-use Rattle.std.{proofs.lemmas.{Grind.common_steps, Str.IsUtf8-from_ascii, List.{length-map, take_at}, Bool.Decides.nat_tests}, specs.{Str.{IsAscii, IsUtf8}, Str.Parse.{IsNumeral, AllDigits}, Char.{digit_value, to_ascii_lowercase}, Prelude.{slice_index, codes}}}
+use Rattle.std.proofs.Common.{◌≡◌, ℕ, ◌<◌, List, [], ◌∷◌, arith, length, map, take, sym, ap, ◌∙◌, zero, suc}
+use Rattle.std.{proofs.lemmas.{Grind.common_steps, Str.IsUtf8-from_ascii, List.{length-map, take_at}, Bool.Decides.nat_tests}, specs.{Str.{IsAscii, IsUtf8}, Str.Parse.{AllDigits}, Char.{digit_value, to_ascii_lowercase}, Prelude.{slice_index, codes}}}
 use Rattle.domain_base.specs.{Scan.{IsNumber}, Numbers.HasPrefix}
 use Rattle.std.proofs.Common.{Some, None, refl, rules, ◌++◌}
 use Rattle.std.specs.{List.AllByRecursion, Fmt.decimal}
 use Rattle.domain_base.specs.Numbers.{Named, name_of, number_named, by_name, by_number}
 use Rattle.domain_base.proofs.TextLemmas.{one_named}
 use Rattle.domain_base.proofs.TextLemmas.{number_back as decimal_number}
-use Rattle.domain_types.specs.Table.{TypeRow, type_rows, row_in, names_of, mnemonic_of, MnemonicText}
+use Rattle.domain_types.specs.Table.{type_rows, row_in, names_of, mnemonic_of, MnemonicText}
 
 digit_at : (c : ℕ) (digits : List ℕ) → digit_value c < 10 → IsAscii digits → (i : ℕ) → slice_index (c ∷ digits) i < 128
 digit_at c digits digit rest zero = grind (arith, common_steps, nat_tests)

@@ -1,5 +1,5 @@
 -- The types of records: a row for each type of IANA's registry "Resource Record (RR) TYPEs".
-use Rattle.std.specs.Prelude.{ℕ, ◌==◌, List, [], ◌∷◌, map, Option, Some, None, codes, if◌then◌else◌}
+use Rattle.std.specs.Prelude.{ℕ, ◌==◌, List, [], ◌∷◌, map, Option, codes, if◌then◌else◌}
 use Rattle.domain_octets.specs.Octets.{Octets}
 use Rattle.domain_base.specs.Numbers.{Named, NumberText, name_of}
 use Rattle.domain_types.specs.declared.field.Field.{Field, TheVariants.{Number8, Number16, Number32, Algorithm, Scheme, CertificateType, RecordType}}

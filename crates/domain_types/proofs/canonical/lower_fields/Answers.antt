@@ -1,4 +1,4 @@
-use Rattle.std.proofs.Common.{◌≡◌, ◌≤◌, length, take, drop, get_or, sym, ◌∙◌, subst}
+use Rattle.std.proofs.Common.{◌≤◌, length, take, get_or, sym, ◌∙◌, subst}
 use Rattle.std.proofs.lemmas.List.{take_rest}
 use Rattle.domain_types.specs.declared.field.Field.TheVariants.{Number8}
 use Rattle.domain_types.specs.Fields.{IsField}

@@ -1,4 +1,4 @@
-use Rattle.std.proofs.Common.{◌≡◌, drop, sym, ap, subst, arith, ◌∙◌, ◌++◌}
+use Rattle.std.proofs.Common.{◌≡◌, drop, sym, ap, subst, arith}
 use Rattle.std.proofs.lemmas.{List.drop_at, Grind.common_steps}
 use Rattle.domain_types.specs.{Fields.AreFields, Table.{fields_of, tail_of}}
 use Rattle.domain_types.proofs.canonical.put_canonical.Goals as goal

@@ -1,7 +1,7 @@
-use Rattle.std.proofs.Common.{◌≡◌, drop, take, length, subst, sym, arith, ◌<◌, refl}
+use Rattle.std.proofs.Common.{take, arith, ◌<◌, refl}
 use Rattle.std.proofs.lemmas.{List.take_rest, Grind.common_steps, Bool.Decides.nat_tests}
-use Rattle.domain_types.proofs.DataLemmas.{many_cut, many_none, field_some}
-use Rattle.domain_types.specs.Fields.{AreMany, none}
+use Rattle.domain_types.proofs.DataLemmas.{many_cut, field_some}
+use Rattle.domain_types.specs.Fields.{none}
 use Rattle.domain_types.proofs.data.are_many.Goals as goal
 
 pub parts-smaller : goal.parts-smaller

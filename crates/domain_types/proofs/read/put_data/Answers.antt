@@ -1,5 +1,5 @@
-use Rattle.std.proofs.Common.{map, subst}
-use Rattle.domain_types.specs.Reading.{token_text, GenericFault, in_generic}
+use Rattle.std.proofs.Common.{subst}
+use Rattle.domain_types.specs.Reading.{GenericFault, in_generic}
 use Rattle.domain_types.proofs.ReadLemmas.{tokens_left}
 use Rattle.domain_types.proofs.read.put_data.Goals as goal
 

@@ -1,4 +1,4 @@
-use Rattle.std.proofs.Common.{◌≡◌, ℕ, [], ◌∷◌, ◌++◌, arith, refl, sym, ap, ◌∙◌, Option, Some, length}
+use Rattle.std.proofs.Common.{◌≡◌, ℕ, [], ◌∷◌, ◌++◌, arith, refl, ap, ◌∙◌, Option, Some}
 use Rattle.std.proofs.lemmas.{Grind.common_steps, List.{take_rest, append_assoc}, Bool.Decides.nat_tests}
 use Rattle.domain_types.specs.Spelling.{string_octet}
 use Rattle.domain_types.proofs.SpellLemmas.{string_next, string_ended}
