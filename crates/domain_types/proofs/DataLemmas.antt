@@ -1,6 +1,9 @@
 -- Octets that are the fields of a layout.
-use Rattle.std.proofs.Common.{◌≡◌, ℕ, zero, suc, ◌+◌, ◌<◌, ◌≤◌, List, [], ◌∷◌, ◌++◌, length, get_or, take, drop, refl, sym, ap, ◌∙◌, subst, arith, length-append, add-one, drop-cons, inl, inr, map}
-use Rattle.std.{specs.Prelude.{◌↔◌}, proofs.lemmas.{Grind.common_steps, List.{take_at, drop_at, append-nil, append_assoc, take-append-drop, length-map}, Bool.{cases_Bool, Decides.nat_tests}}}
+use Rattle.std.proofs.Common.{◌≡◌, ℕ, zero, suc, ◌+◌, ◌<◌, ◌≤◌, List, [], ◌∷◌, ◌++◌, length, get_or, take, drop, refl, sym, ap, ◌∙◌, subst, arith}
+use Rattle.std.proofs.Common.{length-append, add-one, drop-cons, inl, inr, map}
+use Rattle.std.specs.Prelude.{◌↔◌}
+use Rattle.std.proofs.lemmas.{Grind.common_steps, List.{take_at, drop_at, append-nil, append_assoc, take-append-drop, length-map}}
+use Rattle.std.proofs.lemmas.Bool.{cases_Bool, Decides.nat_tests}
 use Rattle.std.specs.{List.{AllByRecursion}, Char.to_ascii_lowercase}
 use Rattle.domain_names.specs.{Name.{Name, IsName, IsLabel, wire_of, lowered}, Wire.{IsWire, labels_within, labels_of}}
 use Rattle.domain_names.proofs.{WireLemmas.{length-wire_of, length-wire, IsWire-wire_of, labels_of-wire_of}, OrderLemmas.{lowered_wire, IsName-lowered}}
@@ -10,13 +13,15 @@ use Rattle.domain_types.specs.Canonical.{name_size, gateway_size, shape_size, fi
 use Rattle.domain_types.specs.Table.{fields_of, tail_of}
 use Rattle.domain_types.specs.declared.field.Field.{Field}
 use Rattle.domain_types.specs.declared.field.Tail.{Tail}
-use Rattle.domain_types.specs.declared.field.Shape.{Shape, TheVariants.{Exactly, Domain, Counted, Word, AfterTwo, AfterOne, TwoCounted, CountedInBits, CountedLong}}
+use Rattle.domain_types.specs.declared.field.Shape.{Shape}
+use Rattle.domain_types.specs.declared.field.Shape.TheVariants.{Exactly, Domain, Counted, Word, AfterTwo, AfterOne, TwoCounted, CountedInBits, CountedLong}
 use Rattle.domain_types.specs.declared.field.Field.TheVariants as fields
 use Rattle.domain_types.proofs.FieldLemmas.{front_at}
 
 -- ---- names before other octets
 
-labels_within-front : (labels : Name) (after : List ℕ) (n : ℕ) → AllByRecursion IsLabel labels → length labels < n → labels_within n (wire_of labels ++ after) ≡ labels
+labels_within-front : (labels : Name) (after : List ℕ) (n : ℕ) → AllByRecursion IsLabel labels → length labels < n
+    → labels_within n (wire_of labels ++ after) ≡ labels
 unfolding labels_within
 labels_within-front labels after zero all below = absurd (omega arith)
 labels_within-front [] after (suc n) all below = refl
@@ -56,7 +61,12 @@ shape_front Counted part after is = grind (arith, common_steps, (front_at part a
 shape_front Word part after is = grind (arith, common_steps, (front_at part after 0 (omega (arith, is.counted))))
 shape_front AfterTwo part after is = rw (front_at part after 0 (omega (arith, is.inside))) (gateway_long 2 _ part after is)
 shape_front AfterOne part after is = rw (front_at part after 0 (omega (arith, is.inside))) (gateway_long 1 _ part after is)
-shape_front TwoCounted part after is = rw (front_at part after 0 (omega (arith, is)), front_at part after 2 (omega (arith, is)), front_at part after 3 (omega (arith, is))) (sym is)
+shape_front TwoCounted part after is = rw (
+  front_at part after 0 (omega (arith, is)),
+  front_at part after 2 (omega (arith, is)),
+  front_at part after 3
+      (omega (arith, is)),
+) (sym is)
 shape_front CountedInBits part after is = rw (front_at part after 3 (omega (arith, is))) (sym is)
 shape_front CountedLong part after is = rw (front_at part after 2 (omega (arith, is)), front_at part after 3 (omega (arith, is))) (sym is)
 
@@ -95,10 +105,6 @@ fields_cut field more tail octets n inside here = (
   λ rest. (take n octets, drop n octets, sym (take-append-drop n octets), here, rest),
   λ has. subst (AreFields more tail) (one_rest field octets has.0 has.1 n inside here has.2 has.3) has.4,
 )
-
-pub fields_none : (field : Field) (more : List Field) (tail : Tail) (octets : List ℕ) → BeginsWithNo (IsField field) octets
-    → AreFields (field ∷ more) tail octets → ⊥
-fields_none field more tail octets other has = other has.0 has.1 has.2 has.3
 
 -- the field at a place of the layout
 pub fields_next : (layout : List Field) (i : ℕ) (first : Field) (tail : Tail) (octets rest next : List ℕ) (n : ℕ) → i < length layout
@@ -149,8 +155,10 @@ pub lowered_next : (field : Field) (more : List Field) (octets part after : List
     → lowered_fields (field ∷ more) octets ≡ lowered_part field part ++ lowered_fields more after
 lowered_next field more octets part after is there =
     let size : field_size field octets ≡ length part = ap (field_size field) is ∙ field_front field part after there in
-    let front : take (field_size field octets) octets ≡ part = ap (λ n. take n octets) size ∙ ap (take (length part)) is ∙ take_at part after (length part) refl in
-    let back : drop (field_size field octets) octets ≡ after = ap (λ n. drop n octets) size ∙ ap (drop (length part)) is ∙ drop_at part after (length part) refl in
+    let front : take (field_size field octets) octets ≡ part = ap (λ n. take n octets) size ∙ ap (take (length part)) is
+    ∙ take_at part after (length part) refl in
+    let back : drop (field_size field octets) octets ≡ after = ap (λ n. drop n octets) size ∙ ap (drop (length part)) is
+    ∙ drop_at part after (length part) refl in
     ap (λ p. lowered_part field p ++ lowered_fields more (drop (field_size field octets) octets)) front
     ∙ ap (λ a. lowered_part field part ++ lowered_fields more a) back
 
@@ -178,13 +186,27 @@ lowering_next layout i first place start len before now next below so inside her
     let parts : octets ≡ part ++ after = sym (take-append-drop len octets) in
     let low_size : length low ≡ len = length-lowered_part field part ∙ let e : length part ≡ len = grind (arith, common_steps) in e in
     let joined : next ≡ (front ++ low) ++ after = next_is ∙ sym (append_assoc front low after) in
-    let long : length (front ++ low) ≡ place + len = length-append front low ∙ (let e : length front + length low ≡ place + len = grind (arith, common_steps, low_size, so.inside) in e) in
+    let long : length (front ++ low) ≡ place + len = length-append front low
+    ∙ (let e : length front + length low ≡ place + len = grind (arith, common_steps, low_size, so.inside) in e) in
     let front_is : take (place + len) next ≡ front ++ low = ap (take (place + len)) joined ∙ take_at (front ++ low) after (place + len) long in
     let back_is : drop (place + len) next ≡ after = ap (drop (place + len)) joined ∙ drop_at (front ++ low) after (place + len) long in
     record {
       inside = omega (arith, ap length joined, length-append (front ++ low) after, long);
-      size = (let e : length next ≡ length now = grind (arith, common_steps, (ap length joined), (length-append (front ++ low) after), long, so.inside, inside) in e) ∙ so.size;
-      rest = (so.rest.0, subst (λ l. AreFields l so.rest.0 (drop (place + len) next)) (sym more) (subst (AreFields (drop (suc i) layout) so.rest.0) (sym back_is) rest));
+      size = (let e : length next ≡ length now = grind (
+        arith,
+        common_steps,
+        (ap length joined),
+        (length-append
+            (front ++ low) after),
+        long,
+        so.inside,
+        inside,
+      ) in e) ∙ so.size;
+      rest = (
+        so.rest.0,
+        subst (λ l. AreFields l so.rest.0 (drop (place + len) next)) (sym more) (subst (AreFields (drop (suc i) layout) so.rest.0)
+            (sym back_is) rest),
+      );
       done = ap (λ f. f ++ lowered_fields (drop (i + 1) layout) (drop (place + len) next)) front_is
           ∙ ap (λ b. (front ++ low) ++ lowered_fields (drop (i + 1) layout) b) back_is
           ∙ ap (λ l. (front ++ low) ++ lowered_fields l after) more
@@ -221,7 +243,8 @@ lowered_letter c = grind (arith, common_steps, nat_tests)
 
 lowered_twice : (octets : List ℕ) → map to_ascii_lowercase (map to_ascii_lowercase octets) ≡ map to_ascii_lowercase octets
 lowered_twice [] = refl
-lowered_twice (c ∷ octets) = ap (λ o. to_ascii_lowercase (to_ascii_lowercase c) ∷ o) (lowered_twice octets) ∙ ap (λ d. d ∷ map to_ascii_lowercase octets) (lowered_letter c)
+lowered_twice (c ∷ octets) = ap (λ o. to_ascii_lowercase (to_ascii_lowercase c) ∷ o) (lowered_twice octets)
+    ∙ ap (λ d. d ∷ map to_ascii_lowercase octets) (lowered_letter c)
 
 part_twice : (field : Field) (part : List ℕ) → lowered_part field (lowered_part field part) ≡ lowered_part field part
 part_twice fields.LoweredName part = lowered_twice part

@@ -1,6 +1,7 @@
 -- Fields of octets: where they end.
 use Rattle.std.proofs.Common.{◌≡◌, ℕ, ◌<◌, ◌≤◌, List, ◌++◌, length, take, drop, sym, ap, ◌∙◌, subst, arith, length-append}
-use Rattle.std.{specs.Prelude.{slice_index}, proofs.lemmas.{Grind.common_steps, List.{take_at, drop_at, drop-take, get_or-take, get_or_append_left, take-append-drop, length-take}}}
+use Rattle.std.specs.Prelude.{slice_index}
+use Rattle.std.proofs.lemmas.{Grind.common_steps, List.{take_at, drop_at, drop-take, get_or-take, get_or_append_left, take-append-drop, length-take}}
 use Rattle.domain_octets.specs.Octets.{Place, Takes}
 use Rattle.domain_names.specs.{Name.{Name, IsName, wire_of}, Wire.{IsWire, NameFault, Fault, labels_of}}
 use Rattle.domain_names.proofs.WireLemmas.{IsWire-wire_of, no_name_fault}

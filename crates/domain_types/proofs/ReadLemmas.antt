@@ -1,10 +1,12 @@
 -- Data that tokens spell.
-use Rattle.std.proofs.Common.{◌≡◌, ℕ, zero, suc, ◌+◌, ◌-◌, ◌<◌, ◌≤◌, List, [], ◌∷◌, ◌++◌, length, get_or, take, drop, map, refl, sym, ap, ◌∙◌, subst, arith, inl, inr, false, add-one, drop-cons}
+use Rattle.std.proofs.Common.{◌≡◌, ℕ, zero, suc, ◌+◌, ◌-◌, ◌<◌, ◌≤◌, List, [], ◌∷◌, ◌++◌, length, get_or, take, drop, map, refl, sym, ap, ◌∙◌, subst, arith}
+use Rattle.std.proofs.Common.{inl, inr, false, add-one, drop-cons}
 use Rattle.std.proofs.lemmas.{Grind.common_steps, List.{append_assoc, append-nil, take_rest}}
 use Rattle.domain_names.specs.Name.{Name}
 use Rattle.domain_types.specs.Spelling.{FieldText}
 use Rattle.domain_types.specs.declared.token.Token.{Token}
-use Rattle.domain_types.specs.Reading.{TokenText, token_text, Spells, TokenFault, ManyTexts, ManyFault, LayoutTexts, LayoutFault, AreRead, AreUnquoted, texts, TailTexts, TailFault, IsMarked, BaseTexts, BaseFault, QuotedFault, tail_kind}
+use Rattle.domain_types.specs.Reading.{TokenText, token_text, Spells, TokenFault, ManyTexts, ManyFault, LayoutTexts, LayoutFault, AreRead, AreUnquoted, texts}
+use Rattle.domain_types.specs.Reading.{TailTexts, TailFault, IsMarked, BaseTexts, BaseFault, QuotedFault, tail_kind}
 use Rattle.domain_types.specs.Spelling.{SpellsNothing, StringText}
 use Rattle.domain_codecs.specs.{Codec.Decodes, declared.codec.Codec.Codec}
 use Rattle.std.specs.{List.{concat}, Prelude.◌↔◌}
@@ -29,14 +31,6 @@ pub record IsReadMany (origin : Name) (field : Field) (tokens : List TokenText) 
   pub back : (after : List ℕ) → ManyTexts origin field (drop place tokens) after → ManyTexts origin field tokens (part ++ after)
   pub fault : (later : ℕ) (kind : DataFaultKind) → ManyFault origin field (drop place tokens) later kind → ManyFault origin field tokens (place + later) kind
 
-pub many_begins : (origin : Name) (field : Field) (tokens : List TokenText) (old : List ℕ) → IsReadMany origin field tokens 0 old old
-many_begins origin field tokens old = record {
-  part = [];
-  appended = sym (append-nil old);
-  back = λ after is. is;
-  fault = λ later kind is. subst (λ n. ManyFault origin field tokens n kind) (let e : later ≡ 0 + later = omega arith in e) is;
-}
-
 -- the token at a place
 many_at : (tokens : List TokenText) (place : ℕ) (token : TokenText) → place < length tokens → token ≡ get_or tokens place token
     → drop place tokens ≡ token ∷ drop (place + 1) tokens
@@ -57,7 +51,8 @@ many_next origin field tokens place token part old now next below at so spells n
       fault = λ later kind is.
           let more : ManyFault origin field (drop place tokens) (later + 1) kind =
           subst (λ ts. ManyFault origin field ts (later + 1) kind) (sym rest) (inr ((part, spells), (later, refl, is))) in
-          subst (λ n. ManyFault origin field tokens n kind) (let e : place + (later + 1) ≡ place + 1 + later = omega arith in e) (so.fault (later + 1) kind more);
+          subst (λ n. ManyFault origin field tokens n kind) (let e : place + (later + 1) ≡ place + 1 + later = omega arith in e) (so.fault
+          (later + 1) kind more);
     }
 
 pub many_fault : (origin : Name) (field : Field) (tokens : List TokenText) (place : ℕ) (token : TokenText) (old now : List ℕ) (kind : DataFaultKind)
@@ -86,14 +81,6 @@ token_at (t ∷ tokens) (suc place) first below = token_at tokens place first (o
 token_at [] place first below = absurd (omega (arith, below))
 
 -- ---- fields, one token each
-
-pub layout_begins : (origin : Name) (layout : List Field) (tokens : List TokenText) (old : List ℕ) → AreRead origin layout tokens 0 old old
-layout_begins origin layout tokens old = record {
-  part = [];
-  appended = sym (append-nil old);
-  back = λ tail after is. is;
-  fault = λ tail later kind is. subst (λ n. LayoutFault origin layout tail tokens n kind) (let e : later ≡ 0 + later = omega arith in e) is;
-}
 
 field_at : (layout : List Field) (place : ℕ) (field first : Field) → place < length layout → field ≡ get_or layout place first
     → drop place layout ≡ field ∷ drop (place + 1) layout
@@ -129,7 +116,8 @@ pub layout_fault : (origin : Name) (layout : List Field) (tokens : List TokenTex
 layout_fault origin layout tokens place field first token old now kind tail in_layout is_field in_tokens is_token so wrong =
     let here : LayoutFault origin (drop place layout) tail (drop place tokens) 0 kind =
     subst (λ fs. LayoutFault origin fs tail (drop place tokens) 0 kind) (sym (field_at layout place field first in_layout is_field))
-    (subst (λ ts. LayoutFault origin (field ∷ drop (place + 1) layout) tail ts 0 kind) (sym (many_at tokens place token in_tokens is_token)) (inl (refl, wrong))) in
+    (subst (λ ts. LayoutFault origin (field ∷ drop (place + 1) layout) tail ts 0 kind) (sym (many_at tokens place token in_tokens is_token)) (inl
+    (refl, wrong))) in
     subst (λ n. LayoutFault origin layout tail tokens n kind) (let e : place + 0 ≡ place = omega arith in e) (so.fault tail 0 kind here)
 
 pub layout_missing : (origin : Name) (layout : List Field) (tokens : List TokenText) (place : ℕ) (first : Field) (old now : List ℕ) (tail : Tail)
@@ -207,14 +195,6 @@ pub layout_refused : (origin : Name) (layout : List Field) (tail : Tail) (tokens
 layout_refused origin layout tail tokens left old now place kind so left_is is =
     let none : drop (length layout) layout ≡ [] = grind (arith, common_steps) in
     let rest : LayoutFault origin (drop (length layout) layout) tail (drop (length layout) tokens) place kind =
-    subst (λ fs. LayoutFault origin fs tail (drop (length layout) tokens) place kind) (sym none) (subst (λ ts. TailFault origin tail ts place kind) left_is is) in
+    subst (λ fs. LayoutFault origin fs tail (drop (length layout) tokens) place kind) (sym none) (subst
+    (λ ts. TailFault origin tail ts place kind) left_is is) in
     so.fault tail place kind rest
-
-pub marked_at : (tokens : List Token) → 0 < length tokens → IsMarked (map token_text tokens)
-    ↔ (((get_or tokens 0 first_token).is_quoted ≡ false) × ((get_or tokens 0 first_token).octets.now ≡ 92 ∷ 35 ∷ []))
-marked_at [] some = absurd (omega (arith, some))
-marked_at (t ∷ tokens) some = (λ is. is, λ is. is)
-
-pub unmarked : (tokens : List Token) → length tokens ≡ 0 → IsMarked (map token_text tokens) → ⊥
-unmarked [] none is = is
-unmarked (t ∷ tokens) none is = omega (arith, none)

@@ -1,6 +1,9 @@
 -- The octets that tokens spell.
-use Rattle.std.proofs.Common.{◌≡◌, ℕ, zero, suc, ◌+◌, ◌-◌, ◌<◌, ◌≤◌, List, [], ◌∷◌, ◌++◌, length, take, drop, refl, sym, ap, ◌∙◌, subst, arith, length-append, inl, inr, true, false, Some}
-use Rattle.std.{proofs.lemmas.{Grind.common_steps, Bool.{cases_Bool, Decides.nat_tests}, List.{append_assoc, append-nil, take-append-drop}, Str.IsUtf8-from_ascii}, specs.{List.AllByRecursion, Str.{IsAscii, IsUtf8}}}
+use Rattle.std.proofs.Common.{◌≡◌, ℕ, zero, suc, ◌+◌, ◌-◌, ◌<◌, ◌≤◌, List, [], ◌∷◌, ◌++◌, length, take, drop, refl, sym, ap, ◌∙◌, subst, arith, length-append}
+use Rattle.std.proofs.Common.{inl, inr, true, false, Some}
+use Rattle.std.proofs.lemmas.{Grind.common_steps, Bool.{cases_Bool, Decides.nat_tests}, List.{append_assoc, append-nil, take-append-drop}}
+use Rattle.std.proofs.lemmas.Str.{IsUtf8-from_ascii}
+use Rattle.std.specs.{List.AllByRecursion, Str.{IsAscii, IsUtf8}}
 use Rattle.domain_names.specs.{Name.{Name, IsName, IsLabel, wire_of}, Wire.{IsWire, labels_of}}
 use Rattle.domain_names.proofs.WireLemmas.{length-wire_of}
 use Rattle.std.proofs.Math.Seq.{take-append-add}
@@ -30,7 +33,8 @@ front_joined (label ∷ own) origin =
 pub joined_wire : (own origin : List ℕ) → IsWire own → IsWire origin
     → take (length own - 1) own ++ origin ≡ wire_of (labels_of own ++ labels_of origin)
 joined_wire own origin own_wire origin_wire =
-    ap (λ w. take (length w - 1) w ++ origin) own_wire.spelled ∙ ap (λ w. take (length (wire_of (labels_of own)) - 1) (wire_of (labels_of own)) ++ w) origin_wire.spelled
+    ap (λ w. take (length w - 1) w ++ origin) own_wire.spelled
+    ∙ ap (λ w. take (length (wire_of (labels_of own)) - 1) (wire_of (labels_of own)) ++ w) origin_wire.spelled
     ∙ front_joined (labels_of own) (labels_of origin)
 
 all_joined : (xs ys : Name) → AllByRecursion IsLabel xs → AllByRecursion IsLabel ys → AllByRecursion IsLabel (xs ++ ys)
@@ -213,7 +217,8 @@ pub string_long : (text string rest : List ℕ) (c used : ℕ) → ReadsString t
 string_long text string rest c used so here long all is =
     let found = so.forth all is in
     let after = next_octet rest found.0 c used here found.2 in
-    let size : length all ≡ length string + suc (length after.0) = ap length found.1 ∙ length-append string found.0 ∙ ap (λ m. length string + length m) after.1 in
+    let size : length all ≡ length string + suc (length after.0) = ap length found.1 ∙ length-append string found.0
+    ∙ ap (λ m. length string + length m) after.1 in
     omega (arith, size, long)
 
 stuck_text : (rest more : List ℕ) → string_octet rest ≡ None → 0 < length rest → StringText rest more → ⊥

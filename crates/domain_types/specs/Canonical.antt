@@ -5,7 +5,8 @@ use Rattle.domain_octets.specs.Octets.{Octets}
 use Rattle.domain_names.specs.{Name.wire_of, Wire.labels_of}
 use Rattle.domain_types.specs.{Fields.{AreFields, shape_of}, Table.{fields_of, tail_of}}
 use Rattle.domain_types.specs.declared.field.Field.{Field, TheVariants.LoweredName}
-use Rattle.domain_types.specs.declared.field.Shape.{Shape, TheVariants.{Exactly, Domain, Counted, Word, AfterTwo, AfterOne, TwoCounted, CountedInBits, CountedLong}}
+use Rattle.domain_types.specs.declared.field.Shape.{Shape}
+use Rattle.domain_types.specs.declared.field.Shape.TheVariants.{Exactly, Domain, Counted, Word, AfterTwo, AfterOne, TwoCounted, CountedInBits, CountedLong}
 
 -- the octets are data of the type
 abbrev pub IsData : ℕ → Octets → Type 0

@@ -6,7 +6,8 @@ use Rattle.domain_names.specs.Wire.{IsWire}
 use Rattle.domain_bitmap.specs.Blocks.{IsBitmap}
 use Rattle.domain_types.specs.declared.field.Field.{Field}
 use Rattle.domain_types.specs.declared.field.Field.TheVariants as fields
-use Rattle.domain_types.specs.declared.field.Shape.{Shape, TheVariants.{Exactly, Domain, Counted, Word, AfterTwo, AfterOne, TwoCounted, CountedInBits, CountedLong}}
+use Rattle.domain_types.specs.declared.field.Shape.{Shape}
+use Rattle.domain_types.specs.declared.field.Shape.TheVariants.{Exactly, Domain, Counted, Word, AfterTwo, AfterOne, TwoCounted, CountedInBits, CountedLong}
 use Rattle.domain_types.specs.declared.field.Tail.{Tail, TheVariants.{Nothing, Base16, Base64, Quoted, Opaque, Types, Many, AtLeastOne, AtMostOne}}
 
 -- ---- the fields, by their shapes

@@ -14,7 +14,8 @@ use Rattle.domain_types.specs.declared.field.Tail.TheVariants as tails
 use Rattle.domain_types.specs.declared.spell.SpellFault.{SpellFault}
 use Rattle.domain_types.specs.declared.spell.SpellFault.TheVariants as spell
 use Rattle.domain_types.specs.declared.token.Token.{Token}
-use Rattle.domain_types.specs.declared.token.DataFaultKind.{DataFaultKind, TheVariants.{Missing, Extra, Quoted, NotField, NotTail, NoText, NotGeneric, NotData, OutOfMemory}}
+use Rattle.domain_types.specs.declared.token.DataFaultKind.{DataFaultKind}
+use Rattle.domain_types.specs.declared.token.DataFaultKind.TheVariants.{Missing, Extra, Quoted, NotField, NotTail, NoText, NotGeneric, NotData, OutOfMemory}
 
 -- a token: its octets without quotes around them, and whether there were quotes
 pub record TokenText : Type 0 where

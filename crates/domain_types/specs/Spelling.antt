@@ -1,5 +1,6 @@
 -- The presentation format of fields: the octets that a token spells (RFC 1035, section 5.1).
-use Rattle.std.specs.Prelude.{◌≡◌, ◌≢◌, ℕ, ◌+◌, ◌-◌, ◌*◌, ◌≤◌, ◌==◌, ◌&&◌, Bool, true, false, nat_le, if◌then◌else◌, Option, Some, None, [], ◌∷◌, ◌++◌, length, drop, fold}
+use Rattle.std.specs.Prelude.{◌≡◌, ◌≢◌, ℕ, ◌+◌, ◌-◌, ◌*◌, ◌≤◌, ◌==◌, ◌&&◌, Bool, true, false, nat_le, if◌then◌else◌, Option, Some, None, [], ◌∷◌, ◌++◌}
+use Rattle.std.specs.Prelude.{length, drop, fold}
 use Rattle.std.specs.{Int.{w16, w32, to_be_bytes}, Char.is_ascii_digit, Net.{Grammar.{IsDotted, IsIpv6Text}, Addr.ipv6_octets}}
 use Rattle.std.specs.declared.net.ipv6_addr.Ipv6Addr.{Ipv6Addr}
 use Rattle.domain_octets.specs.{Octets.Octets, Text.{dot, at_sign, backslash, digit_zero}}

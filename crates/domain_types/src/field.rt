@@ -94,7 +94,7 @@ pub enum Tail {
     Base64,
     /// Octets that print in quotes.
     Quoted,
-    /// Octets without a text of their own: the data print in the generic form (RFC 3597, section 5).
+    /// Octets without a text of their own: the data have the generic form (RFC 3597, section 5).
     Opaque,
     /// The types of a bitmap (RFC 4034, section 4.1.2).
     Types,

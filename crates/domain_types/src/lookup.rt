@@ -82,8 +82,8 @@ pub(crate) fn number_of(digits: &[u8]) -> Option<u16>
     u16::try_from(number(digits)?).ok()
 }
 
-/// Returns the type that a text spells: by its mnemonic, or by `TYPE` and its number, in either case
-/// (RFC 3597, section 5). Does not allocate.
+/// Returns the type that a text spells: by its mnemonic, or by `TYPE` and its number, in either
+/// case (RFC 3597, section 5). Does not allocate.
 #[tactic(auto, using(domain_base::specs::Numbers::by_name, domain_base::specs::Numbers::by_number, domain_base::proofs::TextLemmas::no_number, domain_base::proofs::TextLemmas::no_digits))]
 pub fn rtype_of(text: &[u8]) -> Option<Rtype>
     ensures some { IfSome result (MnemonicText text.now) }

@@ -95,7 +95,8 @@ fn ends_in_dot(text: &[u8]) -> bool
 fn join(own: &[u8], origin: &[u8]) -> Option<Part>
     requires own { IsWire own.now }
     requires origin { IsWire origin.now }
-    ensures some { IfSome result (λ part. part ≡ wire_of (labels_of own.now ++ labels_of origin.now)) }
+    ensures some { IfSome result (λ part. part
+        ≡ wire_of (labels_of own.now ++ labels_of origin.now)) }
     ensures valid { IfSome result (λ _. IsName (labels_of own.now ++ labels_of origin.now)) }
     ensures none { IfNone result (IsName (labels_of own.now ++ labels_of origin.now) → ⊥) }
 {
@@ -139,8 +140,8 @@ fn is_at(text: &[u8]) -> bool
     text == b"@".as_slice()
 }
 
-/// Returns the octets of a name that a text spells, with the origin after it unless the text ends in
-/// a dot.
+/// Returns the octets of a name that a text spells, with the origin after it unless the text ends
+/// in a dot.
 #[tactic(auto, using(std::proofs::lemmas::Grind::common_steps, crate::specs::Spelling::absolute, crate::specs::Spelling::relative, crate::proofs::SpellLemmas::no_other_name))]
 fn place_name(text: &[u8], name: &[u8], origin: &[u8]) -> Option<Part>
     requires name { IsWire name.now }
@@ -196,7 +197,7 @@ pub(crate) fn string_octet(text: &[u8]) -> Option<(u8, usize)>
     }
 }
 
-/// Appends the octets of a string that a text spells, if it has at most 255.
+/// Returns the octets of the string that a text spells, if it has at most 255.
 #[tactic(auto, using(crate::proofs::SpellLemmas::string_steps))]
 fn read_string(text: &[u8]) -> Option<ArrayBuilder<MAX_STRING>>
     ensures some { IfSome result (λ string. StringText text.now string × (length string ≤ 255)) }
@@ -217,7 +218,7 @@ fn read_string(text: &[u8]) -> Option<ArrayBuilder<MAX_STRING>>
     if rest.is_empty() { Some(string) } else { None }
 }
 
-/// Returns whether all octets are letters and digits, and there are 1 to 255 of them.
+/// Returns 1 to 255 letters and digits after their length, if a text is nothing else.
 fn spell_tag(text: &[u8]) -> Option<Part>
     ensures some { IfSome result (TagText text.now) }
     ensures none { IfNone result ((octets : Octets) → TagText text.now octets → ⊥) }

@@ -8,7 +8,8 @@ use Rattle.domain_types.proofs.read.put_fields.Goals as goal
 pub returns-then-place-tokens-clause-err : goal.returns-then-place-tokens-clause-err
 returns-then-place-tokens-clause-err c = λ tail.
     let tokens = map token_text c.args.tokens.now in
-    let over : length tokens ≤ c.loop-place.place = subst (λ n. n ≤ c.loop-place.place) (sym (length-map c.args.tokens.now token_text)) c.if-place-tokens.true in
+    let over : length tokens ≤ c.loop-place.place = subst (λ n. n ≤ c.loop-place.place) (sym
+    (length-map c.args.tokens.now token_text)) c.if-place-tokens.true in
     layout_missing c.args.origin.now c.args.fields.now tokens c.loop-place.place Number8 c.args.out.now.items c.loop-place.out.items tail
     c.loop-place-test.true over c.loop-place.invariant.0
 
@@ -20,7 +21,8 @@ returns-in-Err-clause-err c = λ tail.
     let token = get_or c.args.tokens.now place first_token in
     let below : place < length tokens = subst (λ n. place < n) (sym (length-map c.args.tokens.now token_text)) (omega arith) in
     layout_fault c.args.origin.now fields tokens place (get_or fields place Number8) Number8 (token_text token) c.args.out.now.items c.loop-place.out.items
-    c.in-Err.kind tail c.loop-place-test.true refl below (token_at c.args.tokens.now place first_token (omega arith)) c.loop-place.invariant.0 c.in-Err.ensures.err
+    c.in-Err.kind tail c.loop-place-test.true refl below (token_at c.args.tokens.now place first_token
+    (omega arith)) c.loop-place.invariant.0 c.in-Err.ensures.err
 
 pub loop-place-preserved : goal.loop-place-preserved
 loop-place-preserved c =

@@ -27,5 +27,6 @@ pub returns-clause-ok : goal.returns-clause-ok
 returns-clause-ok c =
     let tokens = map token_text c.args.tokens.now in
     let so = c.loop-place.invariant in
-    let over : length tokens ≤ c.loop-place.place = subst (λ n. n ≤ c.loop-place.place) (sym (length-map c.args.tokens.now token_text)) c.loop-place-test.false in
+    let over : length tokens ≤ c.loop-place.place = subst (λ n. n ≤ c.loop-place.place) (sym
+    (length-map c.args.tokens.now token_text)) c.loop-place-test.false in
     (so.part, many_ends c.args.origin.now c.args.field tokens c.loop-place.place c.args.out.now.items c.loop-place.out.items over so, so.appended)
