@@ -1,0 +1,6 @@
+pub mod FieldLemmas
+pub mod DataLemmas
+pub mod TableLemmas
+pub mod SpellLemmas
+pub mod ReadLemmas
+pub mod ReadLaws

@@ -1,0 +1,202 @@
+-- What tokens spell is data of the type, and tokens with a fault spell none.
+use Rattle.std.proofs.Common.{◌≡◌, ℕ, suc, ◌+◌, ◌-◌, ◌*◌, ◌<◌, ◌≤◌, List, [], ◌∷◌, ◌++◌, length, drop, refl, sym, ap, ◌∙◌, subst, arith, length-append, inl}
+use Rattle.std.proofs.Common.{inr, true, false, ◌⊎◌}
+use Rattle.std.proofs.lemmas.{Grind.common_steps, List.{append-nil, length-replicate}}
+use Rattle.std.specs.{Prelude.slice_index, Net.{Grammar.{IsColonHex}, Addr.octets_of}}
+use Rattle.domain_names.specs.{Name.{Name, IsName}, Wire.IsWire, Text.{NameText, root, of_labels}}
+use Rattle.domain_names.proofs.WireLemmas.{IsWire-wire_of}
+use Rattle.domain_types.specs.Fields.{IsField, AreMany, none, one_more, IsTail, AreFields}
+use Rattle.domain_types.specs.Spelling.{NameToken, at_origin, absolute, relative, NameField}
+use Rattle.domain_types.specs.Spelling.{PlainText, FieldText}
+use Rattle.domain_types.specs.Reading.{TokenText, Spells, TokenFault, ManyTexts, ManyFault, TailTexts, TailFault, LayoutTexts, LayoutFault}
+use Rattle.domain_types.specs.Reading.{BaseFault, QuotedFault, BaseTexts, QuotedTexts, GenericTexts, GenericFault, DataTexts, generic, own}
+use Rattle.domain_types.specs.Reading.{DataTextFault, in_generic, in_own}
+use Rattle.domain_types.specs.{Canonical.IsData, Table.{fields_of, tail_of}}
+use Rattle.domain_types.specs.declared.field.{Field.Field, Tail.Tail}
+use Rattle.domain_types.specs.declared.field.Field.TheVariants as fields
+use Rattle.domain_types.specs.declared.field.Tail.TheVariants as tails
+use Rattle.domain_types.specs.declared.token.DataFaultKind.{DataFaultKind, TheVariants.OutOfMemory}
+use Rattle.domain_types.specs.declared.token.DataFaultKind.TheVariants as kinds
+use Rattle.domain_codecs.specs.declared.codec.Codec.{Codec}
+use Rattle.hex.specs.{Hex.decode_of, declared.error.FromHexError.FromHexError}
+use Rattle.std.specs.{List.concat, Prelude.{Result, Ok}}
+use Rattle.domain_types.specs.Reading.{texts}
+use Rattle.domain_types.proofs.DataLemmas.{field_some}
+
+-- ---- what a token spells is a field of the kind
+
+name_text_valid : (text : List ℕ) (labels : Name) → NameText text labels → IsName labels
+name_text_valid text labels root = record { of_labels = tt; fits = omega arith }
+name_text_valid text labels (of_labels t ls spelled valid) = valid
+
+token_valid : (origin : Name) (text : List ℕ) (labels : Name) → IsName origin → NameToken origin text labels → IsName labels
+token_valid origin text labels valid (at_origin t at) = valid
+token_valid origin text labels valid (absolute t ls other dot spelled) = name_text_valid t ls spelled
+token_valid origin text labels valid (relative t ls other plain spelled joined) = joined
+
+name_field : (origin : Name) (text octets : List ℕ) → IsName origin → NameField origin text octets → IsWire octets
+name_field origin text octets valid (labels, token, is) = subst IsWire (sym is) (IsWire-wire_of labels (token_valid origin text labels valid token))
+
+length-octets_of : (segments : List ℕ) → length (octets_of segments) ≡ 2 * length segments
+length-octets_of [] = refl
+length-octets_of (s ∷ segments) = grind (arith, common_steps, (length-octets_of segments))
+
+segments_eight : (text segments : List ℕ) → IsColonHex text segments → length segments ≡ 8
+segments_eight text segments (inl whole) = whole.1
+segments_eight text segments (inr elided) =
+    let gap = 8 - length elided.head - length elided.tail in
+    let joined = ap length elided.value ∙ length-append (elided.head ++ _) elided.tail ∙ ap (λ n. n + length elided.tail) (length-append elided.head _) in
+    omega (arith, joined, elided.room, length-replicate {A = ℕ} gap 0)
+
+plain_valid : (field : Field) (text octets : List ℕ) → PlainText field text octets → IsField field octets
+plain_valid fields.Number8 text octets (n, number, is) = ap length is
+plain_valid fields.Number16 text octets (n, number, is) = ap length is
+plain_valid fields.Number32 text octets (n, number, is) = ap length is
+plain_valid fields.Algorithm text octets (n, number, is) = ap length is
+plain_valid fields.Scheme text octets (n, number, is) = ap length is
+plain_valid fields.CertificateType text octets (n, number, is) = ap length is
+plain_valid fields.RecordType text octets (t, spelled, is) = ap length is
+plain_valid fields.Period text octets (n, number, is) = ap length is
+plain_valid fields.Time text octets (n, number, is) = ap length is
+plain_valid fields.Ipv4 text octets is = ap length is.value
+plain_valid fields.Ipv6 text octets (a, spelled, is) =
+    ap length is ∙ length-octets_of a.segments ∙ ap (λ n. 2 * n) (segments_eight text a.segments spelled)
+plain_valid fields.CharacterString text octets (string, spelled, fits, is) =
+    subst (λ o. length o ≡ 1 + slice_index o 0) (sym is) (let e : suc (length string) ≡ 1 + length string = omega arith in e)
+plain_valid fields.Tag text octets (is, fits, word) = word
+plain_valid field text octets is = absurd (is)
+
+pub field_valid : (origin : Name) (field : Field) (text octets : List ℕ) → IsName origin → FieldText origin field text octets → IsField field octets
+field_valid origin fields.LoweredName text octets valid is = name_field origin text octets valid is
+field_valid origin fields.Name text octets valid is = name_field origin text octets valid is
+field_valid origin field text octets valid is = plain_valid field text octets is
+
+many_valid : (origin : Name) (field : Field) (tokens : List TokenText) (octets : List ℕ) → IsName origin → ManyTexts origin field tokens octets
+    → AreMany field octets
+many_valid origin field [] octets valid is = subst (AreMany field) (sym is) none
+many_valid origin field (token ∷ tokens) octets valid is =
+    one_more octets is.0 is.1 is.2 (field_valid origin field token.octets is.0 valid is.3.text) (many_valid origin field tokens is.1 valid is.4)
+
+some_octets : (origin : Name) (field : Field) (tokens : List TokenText) (octets : List ℕ) → IsName origin → 0 < length tokens
+    → ManyTexts origin field tokens octets → 0 < length octets
+some_octets origin field [] octets valid some is = absurd (omega (arith, some))
+some_octets origin field (token ∷ tokens) octets valid some is =
+    omega (arith, field_some field is.0 (field_valid origin field token.octets is.0 valid is.3.text), ap length is.2, length-append is.0 is.1)
+
+at_most_one : (origin : Name) (field : Field) (tokens : List TokenText) (octets : List ℕ) → IsName origin → length tokens ≤ 1
+    → ManyTexts origin field tokens octets → (octets ≡ []) ⊎ IsField field octets
+at_most_one origin field [] octets valid few is = inl is
+at_most_one origin field (token ∷ []) octets valid few is =
+    inr (subst (IsField field) (sym (is.2 ∙ ap (λ a. is.0 ++ a) is.4 ∙ append-nil is.0)) (field_valid origin field token.octets is.0 valid is.3.text))
+at_most_one origin field (token ∷ other ∷ tokens) octets valid few is = absurd (omega (arith, few))
+
+tail_valid : (origin : Name) (tail : Tail) (tokens : List TokenText) (octets : List ℕ) → IsName origin → TailTexts origin tail tokens octets
+    → IsTail tail octets
+tail_valid origin tails.Nothing tokens octets valid is = is.1
+tail_valid origin tails.Base16 tokens octets valid is = tt
+tail_valid origin tails.Base64 tokens octets valid is = tt
+tail_valid origin tails.Quoted tokens octets valid is = tt
+tail_valid origin tails.Opaque tokens octets valid is = tt
+tail_valid origin tails.Types tokens octets valid is = absurd (is)
+tail_valid origin (tails.Many field) tokens octets valid is = many_valid origin field tokens octets valid is
+tail_valid origin (tails.AtLeastOne field) tokens octets valid is =
+    (some_octets origin field tokens octets valid is.0 is.1, many_valid origin field tokens octets valid is.1)
+tail_valid origin (tails.AtMostOne field) tokens octets valid is = at_most_one origin field tokens octets valid is.0 is.1
+
+layout_valid : (origin : Name) (layout : List Field) (tail : Tail) (tokens : List TokenText) (octets : List ℕ) → IsName origin
+    → LayoutTexts origin layout tail tokens octets → AreFields layout tail octets
+layout_valid origin [] tail tokens octets valid is = tail_valid origin tail tokens octets valid is
+layout_valid origin (field ∷ more) tail [] octets valid is = absurd (is)
+layout_valid origin (field ∷ more) tail (token ∷ tokens) octets valid is =
+    (is.0, is.1, is.2, field_valid origin field token.octets is.0 valid is.3.text, layout_valid origin more tail tokens is.1 valid is.4)
+
+pub data_valid : (origin : Name) (t : ℕ) (tokens : List TokenText) (octets : List ℕ) → IsName origin → DataTexts origin t tokens octets → IsData t octets
+data_valid origin t tokens octets valid (generic marked spelled is) = is
+data_valid origin t tokens octets valid (own other is) = layout_valid origin (fields_of t) (tail_of t) tokens octets valid is
+
+-- ---- tokens with a fault
+
+token_none : (origin : Name) (field : Field) (token : TokenText) (kind : DataFaultKind) (part : List ℕ) → TokenFault origin field token kind
+    → (kind ≡ OutOfMemory → ⊥) → Spells origin field token part → ⊥
+token_none origin field token kinds.Quoted part wrong real is = let e : true ≡ false = sym wrong ∙ is.quotes in cc
+token_none origin field token (kinds.NotField other) part wrong real is = wrong.1 part is
+token_none origin field token kinds.OutOfMemory part wrong real is = real refl
+token_none origin field token kind part wrong real is = wrong
+
+many_none : (origin : Name) (field : Field) (tokens : List TokenText) (place : ℕ) (kind : DataFaultKind) (octets : List ℕ)
+    → ManyFault origin field tokens place kind → (kind ≡ OutOfMemory → ⊥) → ManyTexts origin field tokens octets → ⊥
+many_none origin field [] place kind octets wrong real is = wrong
+many_none origin field (token ∷ tokens) place kind octets (inl here) real is = token_none origin field token kind is.0 here.1 real is.3
+many_none origin field (token ∷ tokens) place kind octets (inr later) real is = many_none origin field tokens later.1.0 kind is.1 later.1.2 real is.4
+
+base_none : (codec : Codec) (tail : Tail) (tokens : List TokenText) (place : ℕ) (kind : DataFaultKind) (octets : List ℕ)
+    → BaseFault codec tail tokens place kind → (kind ≡ OutOfMemory → ⊥) → BaseTexts codec tokens octets → ⊥
+base_none codec tail tokens place kinds.Missing octets wrong real is = omega (arith, ap length wrong.1, is.some)
+base_none codec tail tokens place (kinds.NotTail other) octets wrong real is = wrong.3 octets is
+base_none codec tail tokens place kinds.OutOfMemory octets wrong real is = real refl
+base_none codec tail tokens place kind octets wrong real is = wrong
+
+quoted_none : (tokens : List TokenText) (place : ℕ) (kind : DataFaultKind) (octets : List ℕ) → QuotedFault tokens place kind
+    → (kind ≡ OutOfMemory → ⊥) → QuotedTexts tokens octets → ⊥
+quoted_none tokens place kinds.Missing octets wrong real is = let e = ap length (sym wrong.1 ∙ is.one) in omega (arith, e)
+quoted_none tokens place kinds.Extra octets wrong real is = omega (arith, wrong.1, ap length is.one)
+quoted_none tokens place (kinds.NotTail other) octets wrong real is = wrong.3 octets is
+quoted_none tokens place kinds.OutOfMemory octets wrong real is = real refl
+quoted_none tokens place kind octets wrong real is = wrong
+
+least_none : (origin : Name) (field : Field) (tokens : List TokenText) (place : ℕ) (kind : DataFaultKind) (octets : List ℕ)
+    → TailFault origin (tails.AtLeastOne field) tokens place kind → (kind ≡ OutOfMemory → ⊥)
+    → TailTexts origin (tails.AtLeastOne field) tokens octets → ⊥
+least_none origin field tokens place kind octets (inl missing) real is = omega (arith, ap length missing.2, is.0)
+least_none origin field tokens place kind octets (inr wrong) real is = many_none origin field tokens place kind octets wrong real is.1
+
+most_none : (origin : Name) (field : Field) (tokens : List TokenText) (place : ℕ) (kind : DataFaultKind) (octets : List ℕ)
+    → TailFault origin (tails.AtMostOne field) tokens place kind → (kind ≡ OutOfMemory → ⊥)
+    → TailTexts origin (tails.AtMostOne field) tokens octets → ⊥
+most_none origin field tokens place kind octets (inl extra) real is = omega (arith, extra.2, is.0)
+most_none origin field tokens place kind octets (inr wrong) real is = many_none origin field tokens place kind octets wrong real is.1
+
+tail_none : (origin : Name) (tail : Tail) (tokens : List TokenText) (place : ℕ) (kind : DataFaultKind) (octets : List ℕ)
+    → TailFault origin tail tokens place kind → (kind ≡ OutOfMemory → ⊥) → TailTexts origin tail tokens octets → ⊥
+tail_none origin tails.Nothing tokens place kind octets wrong real is = omega (arith, wrong.2, ap length is.0)
+tail_none origin tails.Base16 tokens place kind octets wrong real is = base_none _ tails.Base16 tokens place kind octets wrong real is
+tail_none origin tails.Base64 tokens place kind octets wrong real is = base_none _ tails.Base64 tokens place kind octets wrong real is
+tail_none origin tails.Quoted tokens place kind octets wrong real is = quoted_none tokens place kind octets wrong real is
+tail_none origin tails.Opaque tokens place kind octets wrong real is = is
+tail_none origin tails.Types tokens place kind octets wrong real is = is
+tail_none origin (tails.Many field) tokens place kind octets wrong real is = many_none origin field tokens place kind octets wrong real is
+tail_none origin (tails.AtLeastOne field) tokens place kind octets wrong real is = least_none origin field tokens place kind octets wrong real is
+tail_none origin (tails.AtMostOne field) tokens place kind octets wrong real is = most_none origin field tokens place kind octets wrong real is
+
+layout_none : (origin : Name) (layout : List Field) (tail : Tail) (tokens : List TokenText) (place : ℕ) (kind : DataFaultKind) (octets : List ℕ)
+    → LayoutFault origin layout tail tokens place kind → (kind ≡ OutOfMemory → ⊥) → LayoutTexts origin layout tail tokens octets → ⊥
+layout_none origin [] tail tokens place kind octets wrong real is = tail_none origin tail tokens place kind octets wrong real is
+layout_none origin (field ∷ more) tail [] place kind octets wrong real is = is
+layout_none origin (field ∷ more) tail (token ∷ tokens) place kind octets (inl here) real is = token_none origin field token kind is.0 here.1 real is.3
+layout_none origin (field ∷ more) tail (token ∷ tokens) place kind octets (inr later) real is =
+    layout_none origin more tail tokens later.1.0 kind is.1 later.1.2 real is.4
+
+-- the tokens of the generic form spell one list of octets
+one_generic : (tokens : List TokenText) (x y : List ℕ) → GenericTexts tokens x → GenericTexts tokens y → x ≡ y
+one_generic tokens x y first second =
+    let parts : ◌≡◌ {A = List TokenText} (first.count ∷ first.digits) (second.count ∷ second.digits) = sym first.parts ∙ second.parts in
+    let digits : first.digits ≡ second.digits = ap (drop 1) parts in
+    let both : ◌≡◌ {A = Result (List ℕ) FromHexError} (Ok x) (Ok y) =
+    sym first.decodes ∙ ap (λ d. decode_of (concat (texts d))) digits ∙ second.decodes in cc
+
+generic_none : (t : ℕ) (tokens : List TokenText) (place : ℕ) (kind : DataFaultKind) (octets : List ℕ) → GenericFault t tokens place kind
+    → (kind ≡ OutOfMemory → ⊥) → GenericTexts tokens octets → IsData t octets → ⊥
+generic_none t tokens place kinds.NotGeneric octets wrong real spelled is = wrong.1 octets spelled
+generic_none t tokens place kinds.NotData octets wrong real spelled is =
+    wrong.1.2 (subst (IsData t) (one_generic tokens octets wrong.1.0 spelled wrong.1.1) is)
+generic_none t tokens place kinds.OutOfMemory octets wrong real spelled is = real refl
+generic_none t tokens place kind octets wrong real spelled is = wrong
+
+pub data_none : (origin : Name) (t : ℕ) (tokens : List TokenText) (place : ℕ) (kind : DataFaultKind) (octets : List ℕ)
+    → DataTextFault origin t tokens place kind → (kind ≡ OutOfMemory → ⊥) → DataTexts origin t tokens octets → ⊥
+data_none origin t tokens place kind octets (in_generic marked wrong) real (generic also spelled is) =
+    generic_none t (drop 1 tokens) place kind octets wrong real spelled is
+data_none origin t tokens place kind octets (in_generic marked wrong) real (own other is) = other marked
+data_none origin t tokens place kind octets (in_own other wrong) real (generic marked spelled is) = other marked
+data_none origin t tokens place kind octets (in_own other wrong) real (own also is) =
+    layout_none origin (fields_of t) (tail_of t) tokens place kind octets wrong real is

@@ -1,0 +1,7 @@
+use Rattle.std.proofs.Common.{◌≡◌, drop, map}
+use Rattle.domain_base.specs.Numbers.{number_named}
+use Rattle.domain_types.specs.Table.{type_row, names_of}
+use Rattle.domain_types.proofs.lookup.number_in.Given as goal
+
+abbrev pub invariant-loop-row : goal.invariant-loop-row
+invariant-loop-row l = number_named (names_of (map type_row l.table)) l.text ≡ number_named (names_of (map type_row (drop l.row-index l.table))) l.text

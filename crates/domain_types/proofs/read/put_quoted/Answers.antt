@@ -1,0 +1,10 @@
+use Rattle.std.proofs.Common.{map, get_or, arith}
+use Rattle.std.proofs.lemmas.{Grind.common_steps, Bool.Decides.nat_tests}
+use Rattle.domain_types.specs.Reading.{token_text}
+use Rattle.domain_types.proofs.ReadLemmas.{first_token, one_token, quoted_fault}
+use Rattle.domain_types.proofs.read.put_quoted.Goals as goal
+
+pub returns-in-Err-clause-err : goal.returns-in-Err-clause-err
+returns-in-Err-clause-err c =
+    quoted_fault (map token_text c.args.tokens.now) (token_text (get_or c.args.tokens.now 0 first_token)) c.in-Err.fault _ _
+    (one_token c.args.tokens.now (grind (arith, common_steps, nat_tests))) c.in-Err.ensures.err c.fault_of.ensures.0 c.fault_of.ensures.1

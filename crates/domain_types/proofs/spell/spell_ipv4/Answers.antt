@@ -1,0 +1,4 @@
+use Rattle.domain_types.proofs.spell.spell_ipv4.Goals as goal
+
+pub returns-in-Err-clause-none : goal.returns-in-Err-clause-none
+returns-in-Err-clause-none c = λ octets is. c.in-Err.ensures (record { octets = octets }) is

@@ -1,0 +1,223 @@
+-- Data of a type in presentation format: the octets that tokens spell, and the first fault (RFC
+-- 1035, section 5.1; RFC 3597, section 5).
+use Rattle.std.specs.Prelude.{◌≡◌, ℕ, ◌+◌, ◌<◌, ◌≤◌, ◌⊎◌, ◌&&◌, Bool, true, false, not, List, [], ◌∷◌, ◌++◌, length, map, drop, codes}
+use Rattle.std.specs.List.{concat, AllByRecursion}
+use Rattle.domain_octets.specs.Octets.{Octets}
+use Rattle.domain_names.specs.Name.{Name}
+use Rattle.domain_base.specs.Scan.{IsNumber}
+use Rattle.domain_codecs.specs.{Codec.Decodes, declared.codec.Codec.{Codec}}
+use Rattle.domain_codecs.specs.declared.codec.Codec.TheVariants as codecs
+use Rattle.domain_types.specs.{Canonical.IsData, Spelling.{FieldText, StringText}, Table.{fields_of, tail_of}}
+use Rattle.domain_types.specs.declared.field.Field.{Field, TheVariants.CharacterString}
+use Rattle.domain_types.specs.declared.field.Tail.{Tail}
+use Rattle.domain_types.specs.declared.field.Tail.TheVariants as tails
+use Rattle.domain_types.specs.declared.spell.SpellFault.{SpellFault}
+use Rattle.domain_types.specs.declared.spell.SpellFault.TheVariants as spell
+use Rattle.domain_types.specs.declared.token.Token.{Token}
+use Rattle.domain_types.specs.declared.token.DataFaultKind.{DataFaultKind}
+use Rattle.domain_types.specs.declared.token.DataFaultKind.TheVariants.{Missing, Extra, Quoted, NotField, NotTail, NoText, NotGeneric, NotData, OutOfMemory}
+
+-- a token: its octets without quotes around them, and whether there were quotes
+pub record TokenText : Type 0 where
+  pub octets : Octets
+  pub is_quoted : Bool
+
+-- a token of the code
+abbrev pub token_text : Token → TokenText
+token_text token = record { octets = token.octets.now; is_quoted = token.is_quoted }
+
+abbrev pub texts : List TokenText → List Octets
+texts = map (λ token. token.octets)
+
+-- octets were appended
+pub record Grows (old new : Octets) : Type 0 where
+  pub part : Octets
+  pub joined : new ≡ old ++ part
+
+-- ---- fields
+
+abbrev pub may_be_quoted : Field → Bool
+may_be_quoted CharacterString = true
+may_be_quoted _ = false
+
+abbrev pub is_misquoted : Field → TokenText → Bool
+is_misquoted field token = token.is_quoted && not (may_be_quoted field)
+
+-- the token spells the octets of a field of this kind
+pub record Spells (origin : Name) (field : Field) (token : TokenText) (octets : Octets)
+    : Type 0 where
+  pub quotes : is_misquoted field token ≡ false
+  pub text : FieldText origin field token.octets octets
+
+-- the fault of a token that has to spell a field of this kind
+abbrev pub TokenFault : Name → Field → TokenText → DataFaultKind → Type 0
+TokenFault origin field token Quoted = is_misquoted field token ≡ true
+TokenFault origin field token (NotField other) =
+    (other ≡ field) × ((octets : Octets) → Spells origin field token octets → ⊥)
+TokenFault origin field token OutOfMemory = Unit {0}
+TokenFault origin field token kind = ⊥
+
+-- each token spells a field of this kind
+abbrev pub ManyTexts : Name → Field → List TokenText → Octets → Type 0
+ManyTexts origin field [] octets = octets ≡ []
+ManyTexts origin field (token ∷ tokens) octets =
+    (part : Octets) × (after : Octets) × (octets ≡ part ++ after)
+    × Spells origin field token part × ManyTexts origin field tokens after
+
+-- the first token that spells no field of this kind, by its place, and its fault
+abbrev pub ManyFault : Name → Field → List TokenText → ℕ → DataFaultKind → Type 0
+ManyFault origin field [] place kind = ⊥
+ManyFault origin field (token ∷ tokens) place kind =
+    ((place ≡ 0) × TokenFault origin field token kind)
+    ⊎ (((part : Octets) × Spells origin field token part)
+    × ((before : ℕ) × (place ≡ before + 1) × ManyFault origin field tokens before kind))
+
+-- ---- tails
+
+abbrev pub AreUnquoted : List TokenText → Type 0
+AreUnquoted tokens = AllByRecursion (λ token. token.is_quoted ≡ false) tokens
+
+-- tokens without quotes, at least one, whose octets together are a text of the codec
+pub record BaseTexts (codec : Codec) (tokens : List TokenText) (octets : Octets) : Type 0 where
+  pub some : 0 < length tokens
+  pub unquoted : AreUnquoted tokens
+  pub decodes : Decodes codec (concat (texts tokens)) octets
+
+-- the kind of the fault of tokens that do not spell a tail
+abbrev pub tail_kind : SpellFault → Tail → DataFaultKind
+tail_kind spell.Invalid tail = NotTail tail
+tail_kind spell.OutOfMemory tail = OutOfMemory
+
+-- one token that spells a string, with quotes or without
+pub record QuotedTexts (tokens : List TokenText) (octets : Octets) : Type 0 where
+  pub token : TokenText
+  pub one : tokens ≡ token ∷ []
+  pub text : StringText token.octets octets
+
+-- the tokens spell the octets of this tail; the kinds without a text of their own are spelled by no
+-- tokens: their data are read in the generic form
+abbrev pub TailTexts : Name → Tail → List TokenText → Octets → Type 0
+TailTexts origin tails.Nothing tokens octets = (tokens ≡ []) × (octets ≡ [])
+TailTexts origin tails.Base16 tokens octets = BaseTexts codecs.Base16 tokens octets
+TailTexts origin tails.Base64 tokens octets = BaseTexts codecs.Base64 tokens octets
+TailTexts origin tails.Quoted tokens octets = QuotedTexts tokens octets
+TailTexts origin tails.Opaque tokens octets = ⊥
+TailTexts origin tails.Types tokens octets = ⊥
+TailTexts origin (tails.Many field) tokens octets = ManyTexts origin field tokens octets
+TailTexts origin (tails.AtLeastOne field) tokens octets =
+    (0 < length tokens) × ManyTexts origin field tokens octets
+TailTexts origin (tails.AtMostOne field) tokens octets =
+    (length tokens ≤ 1) × ManyTexts origin field tokens octets
+
+-- the fault of tokens that have to be a text of the codec
+abbrev pub BaseFault : Codec → Tail → List TokenText → ℕ → DataFaultKind → Type 0
+BaseFault codec tail tokens place Missing = (place ≡ 0) × (tokens ≡ [])
+BaseFault codec tail tokens place (NotTail other) =
+    (place ≡ 0) × (other ≡ tail) × (0 < length tokens)
+    × ((octets : Octets) → BaseTexts codec tokens octets → ⊥)
+BaseFault codec tail tokens place OutOfMemory = Unit {0}
+BaseFault codec tail tokens place kind = ⊥
+
+-- the fault of tokens that have to be one string
+abbrev pub QuotedFault : List TokenText → ℕ → DataFaultKind → Type 0
+QuotedFault tokens place Missing = (place ≡ 0) × (tokens ≡ [])
+QuotedFault tokens place Extra = (place ≡ 1) × (1 < length tokens)
+QuotedFault tokens place (NotTail other) =
+    (place ≡ 0) × (other ≡ tails.Quoted) × (length tokens ≡ 1)
+    × ((octets : Octets) → QuotedTexts tokens octets → ⊥)
+QuotedFault tokens place OutOfMemory = Unit {0}
+QuotedFault tokens place kind = ⊥
+
+-- the first fault of tokens that have to spell this tail, by its place
+abbrev pub TailFault : Name → Tail → List TokenText → ℕ → DataFaultKind → Type 0
+TailFault origin tails.Nothing tokens place kind =
+    (place ≡ 0) × (kind ≡ Extra) × (0 < length tokens)
+TailFault origin tails.Base16 tokens place kind =
+    BaseFault codecs.Base16 tails.Base16 tokens place kind
+TailFault origin tails.Base64 tokens place kind =
+    BaseFault codecs.Base64 tails.Base64 tokens place kind
+TailFault origin tails.Quoted tokens place kind = QuotedFault tokens place kind
+TailFault origin tails.Opaque tokens place kind = (place ≡ 0) × (kind ≡ NoText)
+TailFault origin tails.Types tokens place kind = (place ≡ 0) × (kind ≡ NoText)
+TailFault origin (tails.Many field) tokens place kind = ManyFault origin field tokens place kind
+TailFault origin (tails.AtLeastOne field) tokens place kind =
+    ((place ≡ 0) × (kind ≡ Missing) × (tokens ≡ [])) ⊎ ManyFault origin field tokens place kind
+TailFault origin (tails.AtMostOne field) tokens place kind =
+    ((place ≡ 1) × (kind ≡ Extra) × (1 < length tokens))
+    ⊎ ManyFault origin field tokens place kind
+
+-- ---- data
+
+-- the tokens spell fields of these kinds, one each, and then the tail
+abbrev pub LayoutTexts : Name → List Field → Tail → List TokenText → Octets → Type 0
+LayoutTexts origin [] tail tokens octets = TailTexts origin tail tokens octets
+LayoutTexts origin (field ∷ more) tail [] octets = ⊥
+LayoutTexts origin (field ∷ more) tail (token ∷ tokens) octets =
+    (part : Octets) × (after : Octets) × (octets ≡ part ++ after)
+    × Spells origin field token part × LayoutTexts origin more tail tokens after
+
+-- the first fault of tokens that have to spell these, by its place
+abbrev pub LayoutFault : Name → List Field → Tail → List TokenText → ℕ → DataFaultKind → Type 0
+LayoutFault origin [] tail tokens place kind = TailFault origin tail tokens place kind
+LayoutFault origin (field ∷ more) tail [] place kind = (place ≡ 0) × (kind ≡ Missing)
+LayoutFault origin (field ∷ more) tail (token ∷ tokens) place kind =
+    ((place ≡ 0) × TokenFault origin field token kind)
+    ⊎ (((part : Octets) × Spells origin field token part)
+    × ((before : ℕ) × (place ≡ before + 1) × LayoutFault origin more tail tokens before kind))
+
+-- the first tokens up to `place` spell the fields up to it, and their octets were appended; what is
+-- left of the tokens decides about the rest
+pub record AreRead (origin : Name) (layout : List Field) (tokens : List TokenText) (place : ℕ)
+    (old now : Octets) : Type 0 where
+  pub part : Octets
+  pub appended : now ≡ old ++ part
+  pub back : (tail : Tail) (after : Octets)
+      → LayoutTexts origin (drop place layout) tail (drop place tokens) after
+      → LayoutTexts origin layout tail tokens (part ++ after)
+  pub fault : (tail : Tail) (later : ℕ) (kind : DataFaultKind)
+      → LayoutFault origin (drop place layout) tail (drop place tokens) later kind
+      → LayoutFault origin layout tail tokens (place + later) kind
+
+-- ---- the generic form (RFC 3597, section 5)
+
+-- the first token is the mark \# of the generic form, without quotes
+abbrev pub IsMarked : List TokenText → Type 0
+IsMarked [] = ⊥
+IsMarked (token ∷ tokens) = (token.is_quoted ≡ false) × (token.octets ≡ codes "\\#")
+
+-- the number of octets, and the octets in Base 16, in any number of tokens
+pub record GenericTexts (tokens : List TokenText) (octets : Octets) : Type 0 where
+  pub count : TokenText
+  pub digits : List TokenText
+  pub parts : tokens ≡ count ∷ digits
+  pub unquoted : AreUnquoted tokens
+  pub number : IsNumber 16 count.octets (length octets)
+  pub decodes : Decodes codecs.Base16 (concat (texts digits)) octets
+
+-- the fault of tokens after the mark
+abbrev pub GenericFault : ℕ → List TokenText → ℕ → DataFaultKind → Type 0
+GenericFault t tokens place NotGeneric =
+    (place ≡ 1) × ((octets : Octets) → GenericTexts tokens octets → ⊥)
+GenericFault t tokens place NotData =
+    (place ≡ 1) × ((octets : Octets) × GenericTexts tokens octets × (IsData t octets → ⊥))
+GenericFault t tokens place OutOfMemory = Unit {0}
+GenericFault t tokens place kind = ⊥
+
+-- ---- data of a type
+
+-- the tokens spell data of the type: in the generic form, or by the fields of its row
+pub data DataTexts (origin : Name) (t : ℕ) (tokens : List TokenText) (octets : Octets)
+    : Type 0 where
+  generic : IsMarked tokens → GenericTexts (drop 1 tokens) octets → IsData t octets
+      → DataTexts origin t tokens octets
+  own : (IsMarked tokens → ⊥) → LayoutTexts origin (fields_of t) (tail_of t) tokens octets
+      → DataTexts origin t tokens octets
+
+-- the first fault of tokens that have to spell data of the type, by its place
+pub data DataTextFault (origin : Name) (t : ℕ) (tokens : List TokenText) (place : ℕ)
+    (kind : DataFaultKind) : Type 0 where
+  in_generic : IsMarked tokens → GenericFault t (drop 1 tokens) place kind
+      → DataTextFault origin t tokens place kind
+  in_own : (IsMarked tokens → ⊥)
+      → LayoutFault origin (fields_of t) (tail_of t) tokens place kind
+      → DataTextFault origin t tokens place kind

@@ -1,0 +1,129 @@
+-- The presentation format of fields: the octets that a token spells (RFC 1035, section 5.1).
+use Rattle.std.specs.Prelude.{◌≡◌, ◌≢◌, ℕ, ◌+◌, ◌-◌, ◌*◌, ◌≤◌, ◌==◌, ◌&&◌, Bool, true, false, nat_le, if◌then◌else◌, Option, Some, None, [], ◌∷◌, ◌++◌}
+use Rattle.std.specs.Prelude.{length, drop, fold}
+use Rattle.std.specs.{Int.{w16, w32, to_be_bytes}, Char.is_ascii_digit, Net.{Grammar.{IsDotted, IsIpv6Text}, Addr.ipv6_octets}}
+use Rattle.std.specs.declared.net.ipv6_addr.Ipv6Addr.{Ipv6Addr}
+use Rattle.domain_octets.specs.{Octets.Octets, Text.{dot, at_sign, backslash, digit_zero}}
+use Rattle.domain_names.specs.{Name.{Name, IsName, wire_of}, Text.NameText}
+use Rattle.domain_base.specs.Scan.{IsNumber}
+use Rattle.domain_types.specs.{Table.MnemonicText, Fields.IsWord}
+use Rattle.domain_types.specs.declared.field.Field.{Field}
+use Rattle.domain_types.specs.declared.field.Field.TheVariants as fields
+use Rattle.domain_types.specs.declared.spell.Going.{Going, TheVariants.{Inside, Escaped, AfterDot}}
+use Rattle.domain_types.specs.declared.spell.SpellFault.{SpellFault, TheVariants.{Invalid, OutOfMemory}}
+
+-- ---- names
+
+-- how the text of a name goes on after one more character
+abbrev pub going_on : Going → ℕ → Going
+going_on Escaped c = Inside
+going_on _ c = if c == backslash then Escaped else (if c == dot then AfterDot else Inside)
+
+abbrev pub is_after_dot : Going → Bool
+is_after_dot AfterDot = true
+is_after_dot _ = false
+
+-- whether the text ends in a dot that no backslash escapes
+abbrev pub ends_in_dot : Octets → Bool
+ends_in_dot text = is_after_dot (fold going_on Inside text)
+
+-- a token that is a name: the origin as @, a name that ends in a dot, or another name, which is
+-- relative to the origin
+pub data NameToken (origin : Name) : Octets → Name → Type 0 where
+  at_origin : (text : Octets) → text ≡ at_sign ∷ [] → NameToken origin text origin
+  absolute : (text : Octets) (labels : Name) → text ≢ at_sign ∷ [] → ends_in_dot text ≡ true
+      → NameText text labels → NameToken origin text labels
+  relative : (text : Octets) (labels : Name) → text ≢ at_sign ∷ [] → ends_in_dot text ≡ false
+      → NameText text labels → IsName (labels ++ origin)
+      → NameToken origin text (labels ++ origin)
+
+-- the token is a name with these octets
+abbrev pub NameField : Name → Octets → Octets → Type 0
+NameField origin text octets =
+    (labels : Name) × NameToken origin text labels × (octets ≡ wire_of labels)
+
+-- ---- strings
+
+-- the octet that the characters after a backslash spell, and how many characters spell it, with the
+-- backslash: three digits up to 255, or one character that is no digit
+abbrev pub escaped_octet : Octets → Option (ℕ × ℕ)
+escaped_octet (a ∷ b ∷ c ∷ text) =
+    let value = (a - digit_zero) * 100 + (b - digit_zero) * 10 + (c - digit_zero) in
+    if is_ascii_digit a
+    then (if is_ascii_digit b && (is_ascii_digit c && nat_le value 255) then Some (value, 4)
+    else None)
+    else Some (a, 2)
+escaped_octet (a ∷ text) = if is_ascii_digit a then None else Some (a, 2)
+escaped_octet [] = None
+
+-- the octet that a text of a string begins with, and how many characters spell it
+unfoldable pub string_octet : Octets → Option (ℕ × ℕ)
+string_octet [] = None
+string_octet (c ∷ text) = if c == backslash then escaped_octet text else Some (c, 1)
+
+-- the text spells the octets of a string, one after another
+pub data StringText : Octets → Octets → Type 0 where
+  string_ends : StringText [] []
+  string_goes : (text string : Octets) (c used : ℕ) → string_octet text ≡ Some (c, used)
+      → StringText (drop used text) string → StringText text (c ∷ string)
+
+-- ---- the fields, one token each
+
+-- a number of 8, 16 or 32 bits in decimal digits
+abbrev pub ByteText : Octets → Octets → Type 0
+ByteText text octets = (n : ℕ) × IsNumber 8 text n × (octets ≡ n ∷ [])
+
+abbrev pub ShortText : Octets → Octets → Type 0
+ShortText text octets = (n : ℕ) × IsNumber 16 text n × (octets ≡ to_be_bytes w16 n)
+
+abbrev pub LongText : Octets → Octets → Type 0
+LongText text octets = (n : ℕ) × IsNumber 32 text n × (octets ≡ to_be_bytes w32 n)
+
+-- a type of records (RFC 3597, section 5)
+abbrev pub TypeField : Octets → Octets → Type 0
+TypeField text octets = (t : ℕ) × MnemonicText text t × (octets ≡ to_be_bytes w16 t)
+
+-- an IPv6 address (RFC 4291, section 2.2)
+abbrev pub LongAddressText : Octets → Octets → Type 0
+LongAddressText text octets = (a : Ipv6Addr) × IsIpv6Text text a × (octets ≡ ipv6_octets a)
+
+-- a string of at most 255 octets, after its length
+abbrev pub StringField : Octets → Octets → Type 0
+StringField text octets =
+    (string : Octets) × StringText text string × (length string ≤ 255)
+    × (octets ≡ length string ∷ string)
+
+-- letters and digits, after their length
+abbrev pub TagText : Octets → Octets → Type 0
+TagText text octets = (octets ≡ length text ∷ text) × (length text ≤ 255) × IsWord octets
+
+-- the text spells the octets of a field that is no name; the kinds without a text of their own are
+-- spelled by no text: their data are read in the generic form
+abbrev pub PlainText : Field → Octets → Octets → Type 0
+PlainText fields.Number8 text octets = ByteText text octets
+PlainText fields.Number16 text octets = ShortText text octets
+PlainText fields.Number32 text octets = LongText text octets
+PlainText fields.Algorithm text octets = ByteText text octets
+PlainText fields.Scheme text octets = ByteText text octets
+PlainText fields.CertificateType text octets = ShortText text octets
+PlainText fields.RecordType text octets = TypeField text octets
+PlainText fields.Period text octets = LongText text octets
+PlainText fields.Time text octets = LongText text octets
+PlainText fields.Ipv4 text octets = IsDotted text octets
+PlainText fields.Ipv6 text octets = LongAddressText text octets
+PlainText fields.CharacterString text octets = StringField text octets
+PlainText fields.Tag text octets = TagText text octets
+PlainText _ text octets = ⊥
+
+-- the text spells the octets of a field of this kind
+abbrev pub FieldText : Name → Field → Octets → Octets → Type 0
+FieldText origin fields.LoweredName text octets = NameField origin text octets
+FieldText origin fields.Name text octets = NameField origin text octets
+FieldText origin field text octets = PlainText field text octets
+
+-- ---- the reasons why a token gives no field
+
+-- no value is spelled, or memory ran out
+abbrev pub SpellsNothing : {V : Type 0} → (V → Type 0) → SpellFault → Type 0
+SpellsNothing {V} Spells Invalid = (v : V) → Spells v → ⊥
+SpellsNothing Spells OutOfMemory = Unit {0}

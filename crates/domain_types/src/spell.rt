@@ -1,0 +1,348 @@
+//! The presentation format of fields: the octets that a token spells (RFC 1035, section 5.1).
+ghost use Rattle.std.specs.Prelude.{◌≡◌, None, ◌≤◌, ◌++◌, ◌∷◌, [], ℕ, ◌<◌, fold, length, drop, IfOk, IfErr, IfSome, IfNone, OnSome, IsTrue, ◌↔◌, ◌≢◌};
+ghost use Rattle.std.specs.{Int.{w16, w32, to_be_bytes}};
+ghost use Rattle.domain_octets.specs.{Octets.Octets, Text.at_sign};
+ghost use Rattle.domain_base.specs.Scan.{IsNumber};
+ghost use Rattle.domain_names.specs.{Name.{wire_of, IsName}, Text.{NameText, NameTextFault, scan_fault_of}, Wire.{IsWire, labels_of}};
+ghost use Rattle.domain_types.specs.Spelling.{going_on, ends_in_dot, NameField, string_octet, StringText};
+ghost use Rattle.domain_types.specs.Spelling.{ByteText, ShortText, LongText, TypeField, TagText};
+ghost use Rattle.domain_types.specs.Spelling.{LongAddressText, StringField, PlainText, FieldText};
+ghost use Rattle.domain_types.specs.Spelling.{SpellsNothing};
+ghost use Rattle.std.specs.Net.Grammar.{IsDotted};
+
+use crate::field::Field;
+use crate::lookup::rtype_of;
+use crate::measure::are_letters;
+use domain_base::{FromToken, MAX_NAME, Name, ParsedName, ScanError, ToName};
+use domain_octets::{ArrayBuilder, Octets, OctetsBuilder, SmallOctets};
+use std::alloc::Global;
+use std::net::{Ipv4Addr, Ipv6Addr};
+
+/// The octets of one field, at most 256.
+pub(crate) type Part = ArrayBuilder<256>;
+
+/// The greatest number of octets of a string (RFC 1035, section 3.3).
+const MAX_STRING: usize = 255;
+
+/// The reason why a token gives no field.
+#[derive(Clone, Copy)]
+pub(crate) enum SpellFault {
+    /// The token does not spell a field of the kind.
+    Invalid,
+    /// Memory ran out.
+    OutOfMemory,
+}
+
+/// How the text of a name goes on.
+#[derive(Clone, Copy)]
+pub(crate) enum Going {
+    /// In a label.
+    Inside,
+    /// After a backslash.
+    Escaped,
+    /// After a dot.
+    AfterDot,
+}
+
+/// Returns a part with these octets.
+fn part_of(octets: &[u8]) -> Part
+    requires { length octets.now ≤ 256 }
+    ensures { result ≡ octets.now }
+{
+    let mut part = Part::new();
+    let Ok(()) = part.append_slice(octets) else {
+        unreachable!();
+    };
+    part
+}
+
+/// Returns the number of at most 32 bits that decimal digits spell.
+pub(crate) fn number(digits: &[u8]) -> Option<u32>
+    ensures some { IfSome result (IsNumber 32 digits.now) }
+    ensures none { IfNone result ((n : ℕ) → IsNumber 32 digits.now n → ⊥) }
+{
+    match str::from_utf8(digits) {
+        Ok(text) => u32::from_token(text).ok(),
+        Err(_) => None,
+    }
+}
+
+/// Returns how a text goes on after one more character.
+fn going_on(going: Going, c: u8) -> Going
+    ensures { result ≡ going_on going c }
+{
+    match going {
+        Going::Escaped => Going::Inside,
+        _ if c == b'\\' => Going::Escaped,
+        _ if c == b'.' => Going::AfterDot,
+        _ => Going::Inside,
+    }
+}
+
+/// Returns whether a text ends in a dot that no backslash escapes.
+fn ends_in_dot(text: &[u8]) -> bool
+    ensures { result ≡ ends_in_dot text.now }
+{
+    let mut going = Going::Inside;
+    for c in text {
+        going = going_on(going, *c);
+    }
+    matches!(going, Going::AfterDot)
+}
+
+/// Returns the wire form of a name and the origin after it, if it has at most 255 octets.
+#[tactic(auto, using(crate::proofs::SpellLemmas::joined_steps))]
+fn join(own: &[u8], origin: &[u8]) -> Option<Part>
+    requires own { IsWire own.now }
+    requires origin { IsWire origin.now }
+    ensures some { IfSome result (λ part. part
+        ≡ wire_of (labels_of own.now ++ labels_of origin.now)) }
+    ensures valid { IfSome result (λ _. IsName (labels_of own.now ++ labels_of origin.now)) }
+    ensures none { IfNone result (IsName (labels_of own.now ++ labels_of origin.now) → ⊥) }
+{
+    let labels = &own[..own.len() - 1];
+    if labels.len() + origin.len() > MAX_NAME {
+        return None;
+    }
+    let mut part = part_of(labels);
+    let Ok(()) = part.append_slice(origin) else {
+        unreachable!();
+    };
+    Some(part)
+}
+
+/// Returns the fault of a token for an error of reading a name.
+fn fault_of(error: ScanError) -> SpellFault
+    ensures { (text : Octets) → NameTextFault None (scan_fault_of error) text
+        → SpellsNothing (NameText text) result }
+{
+    match error {
+        ScanError::OutOfMemory => SpellFault::OutOfMemory,
+        _ => SpellFault::Invalid,
+    }
+}
+
+/// Returns the name that a text spells, absolute or not.
+fn read_name(alloc: Global, text: &[u8]) -> Result<Name<SmallOctets>, SpellFault>
+    ensures ok { IfOk result (NameText text.now) }
+    ensures err { IfErr result (SpellsNothing (NameText text.now)) }
+{
+    match str::from_utf8(text) {
+        Ok(text) => Name::from_str(alloc, text).map_err(fault_of),
+        Err(_) => Err(SpellFault::Invalid),
+    }
+}
+
+/// Returns whether a text is the mark of the origin.
+fn is_at(text: &[u8]) -> bool
+    ensures { IsTrue result ↔ (text.now ≡ at_sign ∷ []) }
+{
+    text == b"@".as_slice()
+}
+
+/// Returns the octets of a name that a text spells, with the origin after it unless the text ends
+/// in a dot.
+#[tactic(auto, using(std::proofs::lemmas::Grind::common_steps, crate::specs::Spelling::absolute, crate::specs::Spelling::relative, crate::proofs::SpellLemmas::no_other_name))]
+fn place_name(text: &[u8], name: &[u8], origin: &[u8]) -> Option<Part>
+    requires name { IsWire name.now }
+    requires origin { IsWire origin.now }
+    requires text { NameText text.now (labels_of name.now) }
+    requires other { text.now ≢ at_sign ∷ [] }
+    ensures some { IfSome result (NameField (labels_of origin.now) text.now) }
+    ensures none { IfNone result ((octets : Octets)
+        → NameField (labels_of origin.now) text.now octets → ⊥) }
+{
+    if ends_in_dot(text) {
+        return Some(part_of(name));
+    }
+    match join(name, origin) {
+        Some(part) => Some(part),
+        None => None,
+    }
+}
+
+/// Returns the octets of the name that a token spells.
+#[tactic(auto, using(std::proofs::lemmas::Grind::common_steps, crate::specs::Spelling::at_origin, crate::proofs::SpellLemmas::no_name_text))]
+fn spell_name(alloc: Global, text: &[u8], origin: &ParsedName<'_>) -> Result<Part, SpellFault>
+    ensures ok { IfOk result (NameField origin.now text.now) }
+    ensures err { IfErr result (SpellsNothing (NameField origin.now text.now)) }
+{
+    if is_at(text) {
+        return Ok(part_of(origin.as_wire()));
+    }
+    let name = read_name(alloc, text)?;
+    match place_name(text, name.as_wire(), origin.as_wire()) {
+        Some(part) => Ok(part),
+        None => Err(SpellFault::Invalid),
+    }
+}
+
+/// Returns the octet that a text of a string begins with, and the number of characters that spell
+/// it.
+#[tactic(auto, unfolding(crate::specs::Spelling::string_octet))]
+pub(crate) fn string_octet(text: &[u8]) -> Option<(u8, usize)>
+    ensures value { result ≡ string_octet text.now }
+    ensures used { IfSome result (λ s. (0 < s.1) × (s.1 ≤ length text.now)) }
+{
+    match text {
+        [b'\\', a, b, c, ..] if a.is_ascii_digit() && b.is_ascii_digit() && c.is_ascii_digit() => {
+            let value = u16::from(*a - b'0') * 100
+                + u16::from(*b - b'0') * 10
+                + u16::from(*c - b'0');
+            Some((u8::try_from(value).ok()?, 4))
+        }
+        [b'\\', a, ..] if !a.is_ascii_digit() => Some((*a, 2)),
+        [c, ..] if *c != b'\\' => Some((*c, 1)),
+        _ => None,
+    }
+}
+
+/// Returns the octets of the string that a text spells, if it has at most 255.
+#[tactic(auto, using(crate::proofs::SpellLemmas::string_steps))]
+fn read_string(text: &[u8]) -> Option<ArrayBuilder<MAX_STRING>>
+    ensures some { IfSome result (λ string. StringText text.now string × (length string ≤ 255)) }
+    ensures none { IfNone result ((string : Octets) → StringText text.now string
+        → 255 < length string) }
+{
+    let mut string = ArrayBuilder::new();
+    let mut rest = text;
+    'octets: while let Some((octet, used)) = string_octet(rest) {
+        if string.as_slice().len() >= MAX_STRING {
+            return None;
+        }
+        let Ok(()) = string.append_slice(&[octet]) else {
+            unreachable!();
+        };
+        rest = &rest[used..];
+    }
+    if rest.is_empty() { Some(string) } else { None }
+}
+
+/// Returns 1 to 255 letters and digits after their length, if a text is nothing else.
+fn spell_tag(text: &[u8]) -> Option<Part>
+    ensures some { IfSome result (TagText text.now) }
+    ensures none { IfNone result ((octets : Octets) → TagText text.now octets → ⊥) }
+{
+    if text.is_empty() || text.len() > MAX_STRING || !are_letters(text) {
+        return None;
+    }
+    Some(counted(text))
+}
+
+/// Returns octets after their length.
+fn counted(octets: &[u8]) -> Part
+    requires { length octets.now ≤ 255 }
+    ensures { result ≡ length octets.now ∷ octets.now }
+{
+    let mut part = part_of(&[octets.len() as u8]);
+    let Ok(()) = part.append_slice(octets) else {
+        unreachable!();
+    };
+    part
+}
+
+/// Returns the octets of the string that a token spells, after their length.
+fn spell_string(text: &[u8]) -> Option<Part>
+    ensures some { IfSome result (StringField text.now) }
+    ensures none { IfNone result ((octets : Octets) → StringField text.now octets → ⊥) }
+{
+    match read_string(text) {
+        Some(string) => Some(counted(string.as_slice())),
+        None => None,
+    }
+}
+
+/// Returns the octet of the number that a token spells.
+fn spell_byte(text: &[u8]) -> Option<Part>
+    ensures some { IfSome result (ByteText text.now) }
+    ensures none { IfNone result ((octets : Octets) → ByteText text.now octets → ⊥) }
+{
+    let number = u8::try_from(number(text)?).ok()?;
+    Some(part_of(&[number]))
+}
+
+/// Returns the two octets of the number that a token spells.
+fn spell_short(text: &[u8]) -> Option<Part>
+    ensures some { IfSome result (ShortText text.now) }
+    ensures none { IfNone result ((octets : Octets) → ShortText text.now octets → ⊥) }
+{
+    let number = u16::try_from(number(text)?).ok()?;
+    Some(part_of(&number.to_be_bytes()))
+}
+
+/// Returns the four octets of the number that a token spells.
+fn spell_long(text: &[u8]) -> Option<Part>
+    ensures some { IfSome result (LongText text.now) }
+    ensures none { IfNone result ((octets : Octets) → LongText text.now octets → ⊥) }
+{
+    let number = number(text)?;
+    Some(part_of(&number.to_be_bytes()))
+}
+
+/// Returns the two octets of the type that a token spells.
+fn spell_type(text: &[u8]) -> Option<Part>
+    ensures some { IfSome result (TypeField text.now) }
+    ensures none { IfNone result ((octets : Octets) → TypeField text.now octets → ⊥) }
+{
+    let number = rtype_of(text)?.to_int();
+    Some(part_of(&number.to_be_bytes()))
+}
+
+/// Returns the octets of the IPv4 address that a token spells.
+fn spell_ipv4(text: &[u8]) -> Option<Part>
+    ensures some { IfSome result (IsDotted text.now) }
+    ensures none { IfNone result ((octets : Octets) → IsDotted text.now octets → ⊥) }
+{
+    match Ipv4Addr::parse_ascii(text) {
+        Ok(address) => Some(part_of(&address.octets())),
+        Err(_) => None,
+    }
+}
+
+/// Returns the octets of the IPv6 address that a token spells.
+fn spell_ipv6(text: &[u8]) -> Option<Part>
+    ensures some { IfSome result (LongAddressText text.now) }
+    ensures none { IfNone result ((octets : Octets) → LongAddressText text.now octets → ⊥) }
+{
+    match Ipv6Addr::parse_ascii(text) {
+        Ok(address) => Some(part_of(&address.octets())),
+        Err(_) => None,
+    }
+}
+
+/// Returns the octets of the field that a token spells, for the kinds that are no names.
+fn spell_plain(field: Field, text: &[u8]) -> Option<Part>
+    ensures some { IfSome result (PlainText field text.now) }
+    ensures none { IfNone result ((octets : Octets) → PlainText field text.now octets → ⊥) }
+{
+    match field {
+        Field::Number8 | Field::Algorithm | Field::Scheme => spell_byte(text),
+        Field::Number16 | Field::CertificateType => spell_short(text),
+        Field::Number32 | Field::Period | Field::Time => spell_long(text),
+        Field::RecordType => spell_type(text),
+        Field::Ipv4 => spell_ipv4(text),
+        Field::Ipv6 => spell_ipv6(text),
+        Field::CharacterString => spell_string(text),
+        Field::Tag => spell_tag(text),
+        _ => None,
+    }
+}
+
+/// Returns the octets of the field that a token spells.
+pub(crate) fn spell(
+    alloc: Global,
+    field: Field,
+    text: &[u8],
+    origin: &ParsedName<'_>,
+) -> Result<Part, SpellFault>
+    ensures ok { IfOk result (FieldText origin.now field text.now) }
+    ensures err { IfErr result (SpellsNothing (FieldText origin.now field text.now)) }
+{
+    match field {
+        Field::LoweredName | Field::Name => spell_name(alloc, text, origin),
+        _ => match spell_plain(field, text) {
+            Some(part) => Ok(part),
+            None => Err(SpellFault::Invalid),
+        },
+    }
+}
