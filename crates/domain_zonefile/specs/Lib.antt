@@ -1,0 +1,2 @@
+pub mod Lexemes
+pub mod ErrorText

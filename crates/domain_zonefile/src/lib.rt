@@ -1,0 +1,7 @@
+//! Zone files.
+#![tactic(auto)]
+
+mod error;
+mod lexeme;
+
+pub use error::SyntaxError;
