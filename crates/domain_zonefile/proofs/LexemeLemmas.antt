@@ -5,7 +5,7 @@ use Rattle.std.proofs.lemmas.List.Sums.{prefix_len-drop_yes, prefix_len-drop_no,
 use Rattle.std.specs.{List.prefix_len, Prelude.{◌&&◌, ◌==◌, if◌then◌else◌}}
 use Rattle.domain_octets.specs.Octets.{Octets}
 use Rattle.domain_zonefile.specs.Lexemes.{is_blank, is_comment, is_return, is_separator, is_escape, quoted_from, word_from, valued, quoted_fault, quoted_step, first_fault, with_fault}
-use Rattle.domain_zonefile.specs.Lexemes.{equals_after, is_after, lexeme_at, lexeme_len, HasBounds, fault_place, begins_apart, begins_at_line_end, returns_at}
+use Rattle.domain_zonefile.specs.Lexemes.{equals_after, is_after, lexeme_at, lexeme_len, HasBounds, inner_len, begins_apart, begins_at_line_end, returns_at}
 use Rattle.domain_zonefile.specs.declared.lexeme.Lexeme.{Lexeme, TheVariants.{Gap, LineEnd, Open, Close, Word, Quoted, Bad}}
 use Rattle.domain_zonefile.specs.declared.error.SyntaxError.{SyntaxError, TheVariants.{BadEscape, UnclosedQuote, MisplacedQuote, NoSeparator, StrayReturn, Nul}}
 
@@ -183,33 +183,33 @@ chosen false yes_case no_case = no_case refl
 fault_bounds : (here : Option SyntaxError) (n least most : ℕ) (x : Lexeme) → n ≤ least → HasBounds least most x
     → HasBounds least most (with_fault (first_fault None here n) x)
 fault_bounds None n least most x h bounds = bounds
-fault_bounds (Some error) n least most x h bounds = record { low = bounds.low; high = bounds.high; place = omega (arith, bounds.low) }
+fault_bounds (Some error) n least most x h bounds = record { low = bounds.low; high = bounds.high; inner = omega (arith, bounds.low) }
 
 bad_bounds : (least most len : ℕ) (error : SyntaxError) (at : ℕ) → least ≤ len → len ≤ most → at ≤ len → HasBounds least most (Bad len error at)
-bad_bounds least most len error at low high place = record { low = low; high = high; place = place }
+bad_bounds least most len error at low high place = record { low = low; high = high; inner = place }
 
 word_is : (least most len : ℕ) → least ≤ len → len ≤ most → HasBounds least most (Word len)
-word_is least most len low high = record { low = low; high = high; place = omega arith }
+word_is least most len low high = record { low = low; high = high; inner = omega arith }
 
-quoted_is : (least most len : ℕ) → least ≤ len → len ≤ most → HasBounds least most (Quoted len)
-quoted_is least most len low high = record { low = low; high = high; place = omega arith }
+quoted_is : (least most len : ℕ) → least ≤ len → len ≤ most → 2 ≤ len → HasBounds least most (Quoted len)
+quoted_is least most len low high two = record { low = low; high = high; inner = two }
 
 gap_is : (least most len : ℕ) → least ≤ len → len ≤ most → HasBounds least most (Gap len)
-gap_is least most len low high = record { low = low; high = high; place = omega arith }
+gap_is least most len low high = record { low = low; high = high; inner = omega arith }
 
 -- one octet was read
 read_one : (n len : ℕ) (x : Lexeme) → HasBounds (n + 1) (n + 1 + len) x → HasBounds n (n + suc len) x
-read_one n len x bounds = record { low = omega (arith, bounds.low); high = omega (arith, bounds.high); place = bounds.place }
+read_one n len x bounds = record { low = omega (arith, bounds.low); high = omega (arith, bounds.high); inner = bounds.inner }
 
-pub quoted_bounds : (text : Octets) (n : ℕ) (taken : Bool) → HasBounds n (n + length text) (quoted_from n taken text)
+pub quoted_bounds : (text : Octets) (n : ℕ) (taken : Bool) → 1 ≤ n → HasBounds n (n + length text) (quoted_from n taken text)
 unfolding quoted_from
-quoted_bounds [] n taken = bad_bounds n (n + 0) n UnclosedQuote 0 (omega arith) (omega arith) (omega arith)
-quoted_bounds (c ∷ text) n taken =
+quoted_bounds [] n taken h = bad_bounds n (n + 0) n UnclosedQuote 0 (omega arith) (omega arith) (omega arith)
+quoted_bounds (c ∷ text) n taken h =
     let most = n + suc (length text) in
-    let next : (more : Bool) → HasBounds n most (quoted_from (n + 1) more text) = λ more. read_one n (length text) _ (quoted_bounds text (n + 1) more) in
+    let next : (more : Bool) → HasBounds n most (quoted_from (n + 1) more text) = λ more. read_one n (length text) _ (quoted_bounds text (n + 1) more (omega arith)) in
     chosen (c == 10) (λ _. bad_bounds n most n UnclosedQuote 0 (omega arith) (omega arith) (omega arith))
     (λ _. chosen taken (λ _. next false)
-    (λ _. chosen (c == 34) (λ _. quoted_is n most (n + 1) (omega arith) (omega arith))
+    (λ _. chosen (c == 34) (λ _. quoted_is n most (n + 1) (omega arith) (omega arith) (omega arith))
     (λ _. fault_bounds (quoted_fault c text) n n most (quoted_from (n + 1) (c == 92 && is_escape text) text) (omega arith) (next (c == 92 && is_escape text)))))
 
 value_bounds : (n most : ℕ) (text : Octets) (len : ℕ) → len ≤ most
@@ -218,7 +218,7 @@ value_bounds n most text len h = chosen (begins_apart (drop len text)) (λ _. wo
     (λ _. bad_bounds n (n + most) (n + len) NoSeparator (n + len) (omega arith) (omega arith) (omega arith))
 
 valued_bounds : (n most : ℕ) (text : Octets) (x : Lexeme) → HasBounds 1 most x → HasBounds n (n + most) (valued n text x)
-valued_bounds n most text (Bad len error at) bounds = record { low = omega arith; high = omega (arith, bounds.high); place = omega (arith, bounds.place) }
+valued_bounds n most text (Bad len error at) bounds = record { low = omega arith; high = omega (arith, bounds.high); inner = omega (arith, bounds.inner) }
 valued_bounds n most text (Gap len) bounds = value_bounds n most text len bounds.high
 valued_bounds n most text LineEnd bounds = value_bounds n most text 1 bounds.high
 valued_bounds n most text Open bounds = value_bounds n most text 1 bounds.high
@@ -233,7 +233,7 @@ word_bounds (c ∷ text) n taken equals =
     let most = n + suc (length text) in
     let next : (more : Bool) (e : Option ℕ) → HasBounds n most (word_from (n + 1) more e text) = λ more e. read_one n (length text) _ (word_bounds text (n + 1) more e) in
     let quoted : HasBounds 1 (suc (length text)) (quoted_from 1 false text) =
-    (let q = quoted_bounds text 1 false in record { low = q.low; high = omega (arith, q.high); place = q.place }) in
+    (let q = quoted_bounds text 1 false (omega arith) in record { low = q.low; high = omega (arith, q.high); inner = q.inner }) in
     chosen taken (λ _. next false equals)
     (λ _. chosen (is_separator c) (λ _. word_is n most n (omega arith) (omega arith))
     (λ _. chosen (c == 34) (λ _. chosen (is_after n equals) (λ _. valued_bounds n (suc (length text)) (c ∷ text) (quoted_from 1 false text) quoted)
@@ -247,7 +247,7 @@ word_first : (c : ℕ) (text : Octets) → is_separator c ≡ false → (c == 34
 unfolding word_from
 word_first c text apart quote =
     let next : (more : Bool) (e : Option ℕ) → HasBounds 1 (suc (length text)) (word_from 1 more e text) =
-    λ more e. (let w = word_bounds text 1 more e in record { low = w.low; high = omega (arith, w.high); place = w.place }) in
+    λ more e. (let w = word_bounds text 1 more e in record { low = w.low; high = omega (arith, w.high); inner = w.inner }) in
     rw (apart, quote) (chosen (c == 92) (λ _. chosen (is_escape text) (λ _. next true None)
     (λ _. bad_bounds 1 (suc (length text)) 1 BadEscape 0 (omega arith) (omega arith) (omega arith)))
     (λ _. next false (equals_after 0 c None)))
@@ -273,10 +273,10 @@ pub lexeme_bounds : (c : ℕ) (text : Octets) → HasBounds 1 (suc (length text)
 unfolding lexeme_at
 lexeme_bounds c text =
     let most = suc (length text) in
-    let one : (x : Lexeme) → lexeme_len x ≡ 1 → fault_place x ≡ 0 → HasBounds 1 most x = λ x l p. record { low = omega arith; high = omega arith; place = omega arith } in
+    let one : (x : Lexeme) → lexeme_len x ≡ 1 → inner_len x ≡ 0 → HasBounds 1 most x = λ x l p. record { low = omega arith; high = omega arith; inner = omega arith } in
     let run : (p : ℕ → Bool) → p c ≡ true → HasBounds 1 most (Gap (prefix_len p (c ∷ text))) =
     λ p h. gap_is 1 most (prefix_len p (c ∷ text)) (run_bounds p c text h).0 (run_bounds p c text h).1 in
-    let quoted : HasBounds 1 most (quoted_from 1 false text) = (let q = quoted_bounds text 1 false in record { low = q.low; high = omega (arith, q.high); place = q.place }) in
+    let quoted : HasBounds 1 most (quoted_from 1 false text) = (let q = quoted_bounds text 1 false (omega arith) in record { low = q.low; high = omega (arith, q.high); inner = q.inner }) in
     chosen (is_blank c) (λ h. run is_blank h)
     (λ blank. chosen (c == 10) (λ _. one LineEnd refl refl)
     (λ line. chosen (c == 59) (λ h. run is_comment (comment_begins c h))
@@ -292,8 +292,8 @@ lexeme_bounds c text =
 pub quoted_within : (text : Octets) (x : Lexeme) → x ≡ quoted_from 1 false (drop 1 text) → 0 < length text → HasBounds 1 (length text) x
 quoted_within [] x is h = absurd (omega arith)
 quoted_within (c ∷ text) x is h =
-    let q = quoted_bounds text 1 false in
-    rw is (record { low = q.low; high = omega (arith, q.high); place = q.place })
+    let q = quoted_bounds text 1 false (omega arith) in
+    rw is (record { low = q.low; high = omega (arith, q.high); inner = q.inner })
 
 pub lexeme_within : (text : Octets) (x : Lexeme) → x ≡ lexeme_at text → 0 < length text → HasBounds 1 (length text) x
 lexeme_within [] x is h = absurd (omega arith)

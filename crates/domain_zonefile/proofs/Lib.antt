@@ -1,1 +1,3 @@
 pub mod LexemeLemmas
+pub mod EntryLemmas
+pub mod TokenLemmas

@@ -56,21 +56,21 @@ lexeme_len (Word len) = len
 lexeme_len (Quoted len) = len
 lexeme_len (Bad len error at) = len
 
--- the place of the fault in a lexeme, or 0 if it has none
-abbrev pub fault_place : Lexeme → ℕ
-fault_place (Gap len) = 0
-fault_place LineEnd = 0
-fault_place Open = 0
-fault_place Close = 0
-fault_place (Word len) = 0
-fault_place (Quoted len) = 0
-fault_place (Bad len error at) = at
+-- octets that a lexeme has at least: those before its fault, or its two quotes
+abbrev pub inner_len : Lexeme → ℕ
+inner_len (Gap len) = 0
+inner_len LineEnd = 0
+inner_len Open = 0
+inner_len Close = 0
+inner_len (Word len) = 0
+inner_len (Quoted len) = 2
+inner_len (Bad len error at) = at
 
--- a lexeme of at least `least` and at most `most` octets, and its fault is not behind it
+-- a lexeme of at least `least` and at most `most` octets, with its inner ones
 pub record HasBounds (least most : ℕ) (lexeme : Lexeme) : Type 0 where
   pub low : least ≤ lexeme_len lexeme
   pub high : lexeme_len lexeme ≤ most
-  pub place : fault_place lexeme ≤ lexeme_len lexeme
+  pub inner : inner_len lexeme ≤ lexeme_len lexeme
 
 -- the lexeme has a fault at this place, before any other fault in it
 abbrev pub failed : SyntaxError → ℕ → Lexeme → Lexeme

@@ -1,2 +1,5 @@
 pub mod Lexemes
 pub mod ErrorText
+pub mod Entries
+pub mod Tokens
+pub mod Reading

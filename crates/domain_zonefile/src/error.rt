@@ -45,3 +45,12 @@ impl fmt::Display for SyntaxError {
 }
 
 impl Error for SyntaxError {}
+
+/// A fault of a zone file's octets, with its place.
+#[derive(Clone, Copy, Debug, PartialEq, Eq)]
+pub struct SyntaxFault {
+    /// What is wrong.
+    pub error: SyntaxError,
+    /// The number of octets before it.
+    pub at: usize,
+}

@@ -76,7 +76,7 @@ fn blank_len(text: &[u8]) -> usize
 
 /// Returns the number of octets before the first line feed.
 #[tactic(auto, using(crate::proofs::LexemeLemmas::run_steps))]
-fn comment_len(text: &[u8]) -> usize
+pub fn comment_len(text: &[u8]) -> usize
     ensures value { result ≡ prefix_len is_comment text.now }
     ensures within { result ≤ length text.now }
 {
