@@ -1,13 +1,13 @@
 -- Entries: how they go on from lexeme to lexeme.
-use Rattle.std.proofs.Common.{arith, ℕ, zero, suc, ◌+◌, ◌-◌, ◌<◌, ◌≤◌, ◌≡◌, ◌∷◌, ◌++◌, [], List, refl, ap, subst, ◌∙◌, sym, length, take, drop, get_or, Bool, true, false, Option, Some, None, append_assoc, add_assoc}
-use Rattle.std.proofs.{lemmas.Grind.common_steps, lemmas.List.{drop-drop, append-nil, length-drop}}
-use Rattle.std.specs.Prelude.{if◌then◌else◌, max}
+use Rattle.std.proofs.Common.{arith, ℕ, zero, suc, ◌+◌, ◌-◌, ◌<◌, ◌≤◌, ◌≡◌, ◌∷◌, ◌++◌, [], List, refl, ap, subst, ◌∙◌, sym, length, take, drop, get_or, Bool, true, false, Option, Some, None, append_assoc, inl, inr}
+use Rattle.std.proofs.{lemmas.Bool.cases_lt, lemmas.Grind.common_steps, lemmas.List.{drop-drop, append-nil, length-drop}}
+use Rattle.std.specs.Prelude.{if◌then◌else◌, max, nat_le}
 use Rattle.domain_octets.specs.Octets.{Octets}
 use Rattle.domain_zonefile.proofs.LexemeLemmas.{split_at, lexeme_bounds, lexeme_within, rest_is}
 use Rattle.domain_zonefile.specs.Lexemes.{lexeme_at, lexeme_len, HasBounds}
-use Rattle.domain_zonefile.specs.Entries.{Placed, placed, lexemes_from, lexemes, Piece, tokens_of, open_after, is_outside, ends_entry, fault_of}
-use Rattle.domain_zonefile.specs.Entries.{tokens_in, or_else, unclosed_bracket, fault_in, EntryEnd, BeforeLine, EndOfFile, end_in, resume, tokens_at, fault_at, next_at, line_after}
-use Rattle.domain_zonefile.specs.{Tokens.innermost, Reading.{IsReading, IsEnd}, declared.error.SyntaxFault.SyntaxFault, declared.lexeme.Lexeme.Lexeme}
+use Rattle.domain_zonefile.specs.Entries.{Placed, placed, lexemes_from, lexemes, Piece, tokens_of, open_after, ends_entry, fault_of}
+use Rattle.domain_zonefile.specs.Entries.{tokens_in, or_else, unclosed_bracket, fault_in, EntryEnd, BeforeLine, EndOfFile, end_in, resume, tokens_at, fault_at, next_at, line_after, item_of, items_in, items_from, entry_of, begins_blank, Entry as EntryItem, Faulty as FaultyItem}
+use Rattle.domain_zonefile.specs.{Tokens.{innermost, is_empty}, Reading.{IsReading, IsEnd}, declared.error.SyntaxFault.SyntaxFault, declared.lexeme.Lexeme.{Lexeme, TheVariants.{Gap, LineEnd, Open, Close, Word, Quoted, Bad}}}
 use Rattle.domain_zonefile.specs.declared.entry.Reading.{Reading, TheVariants.{Entry, Faulty}}
 
 -- ---- the lexemes of a file, one after the other
@@ -202,3 +202,172 @@ pub resume_none : (file : Octets) (fault : SyntaxFault) (brackets : List ℕ) (w
     → None ≡ innermost brackets → length file ≡ resume file (Some fault) whole
 resume_none file fault [] whole end none = ap (resume file (Some fault)) end
 resume_none file fault (b ∷ brackets) whole end none = cc
+
+-- ---- reading goes on
+
+-- each lexeme is between two places
+abbrev AreBetween : ℕ → ℕ → List Placed → Type 0
+AreBetween start stop [] = Unit {0}
+AreBetween start stop (x ∷ xs) = (start ≤ x.at) × (x.at < stop) × AreBetween start stop xs
+
+-- each place is not before the start
+abbrev AreFrom : ℕ → List ℕ → Type 0
+AreFrom start [] = Unit {0}
+AreFrom start (n ∷ ns) = (start ≤ n) × AreFrom start ns
+
+abbrev IsPast : ℕ → ℕ → EntryEnd → Type 0
+IsPast start stop (BeforeLine next) = (start < next) × (next ≤ stop)
+IsPast start stop (EndOfFile brackets) = AreFrom start brackets
+
+abbrev IsFaultFrom : ℕ → Option SyntaxFault → Type 0
+IsFaultFrom start None = Unit {0}
+IsFaultFrom start (Some fault) = start ≤ fault.at
+
+lexemes_between : (skip at : ℕ) (text : Octets) (start : ℕ) → start ≤ at → AreBetween start (at + length text) (lexemes_from skip at text)
+unfolding lexemes_from
+lexemes_between skip at [] start h = tt
+lexemes_between zero at (c ∷ text) start h = (
+  h,
+  omega arith,
+  subst (λ n. AreBetween start n (lexemes_from (lexeme_len (lexeme_at (c ∷ text)) - 1) (at + 1) text)) (omega arith)
+      (lexemes_between (lexeme_len (lexeme_at (c ∷ text)) - 1) (at + 1) text start (omega arith)),
+)
+lexemes_between (suc skip) at (c ∷ text) start h =
+    subst (λ n. AreBetween start n (lexemes_from skip (at + 1) text)) (omega arith) (lexemes_between skip (at + 1) text start (omega arith))
+
+brackets_from : (start at : ℕ) (x : Lexeme) (brackets : List ℕ) → start ≤ at → AreFrom start brackets → AreFrom start (open_after at x brackets)
+brackets_from start at (Gap len) brackets h from = from
+brackets_from start at LineEnd brackets h from = from
+brackets_from start at Open brackets h from = (h, from)
+brackets_from start at Close [] h from = tt
+brackets_from start at Close (b ∷ brackets) h from = from.1
+brackets_from start at (Word len) brackets h from = from
+brackets_from start at (Quoted len) brackets h from = from
+brackets_from start at (Bad len error place) brackets h from = from
+
+past_either : (start stop : ℕ) (b : Bool) (x y : EntryEnd) → IsPast start stop x → IsPast start stop y → IsPast start stop (if b then x else y)
+past_either start stop true x y p q = p
+past_either start stop false x y p q = q
+
+end_past : (start stop : ℕ) (brackets : List ℕ) (xs : List Placed) → AreBetween start stop xs → AreFrom start brackets → IsPast start stop (end_in brackets xs)
+end_past start stop brackets [] between from = from
+end_past start stop brackets (x ∷ xs) between from =
+    past_either start stop (ends_entry x.lexeme brackets) (BeforeLine (x.at + 1)) (end_in (open_after x.at x.lexeme brackets) xs)
+    (omega (arith, between.0), omega (arith, between.1))
+    (end_past start stop (open_after x.at x.lexeme brackets) xs between.2 (brackets_from start x.at x.lexeme brackets between.0 from))
+
+fault_either : (start : ℕ) (b : Bool) (x y : Option SyntaxFault) → IsFaultFrom start x → IsFaultFrom start y → IsFaultFrom start (if b then x else y)
+fault_either start true x y p q = p
+fault_either start false x y p q = q
+
+fault_or : (start : ℕ) (x y : Option SyntaxFault) → IsFaultFrom start x → IsFaultFrom start y → IsFaultFrom start (or_else x y)
+fault_or start None y p q = q
+fault_or start (Some fault) y p q = p
+
+fault_from : (start at : ℕ) (x : Lexeme) (brackets : List ℕ) → start ≤ at → IsFaultFrom start (fault_of at x brackets)
+fault_from start at (Gap len) brackets h = tt
+fault_from start at LineEnd brackets h = tt
+fault_from start at Open brackets h = tt
+fault_from start at Close [] h = h
+fault_from start at Close (b ∷ brackets) h = tt
+fault_from start at (Word len) brackets h = tt
+fault_from start at (Quoted len) brackets h = tt
+fault_from start at (Bad len error place) brackets h = omega arith
+
+unclosed_from : (start : ℕ) (brackets : List ℕ) → AreFrom start brackets → IsFaultFrom start (unclosed_bracket brackets)
+unclosed_from start [] from = tt
+unclosed_from start (b ∷ brackets) from = from.0
+
+fault_past : (start stop : ℕ) (brackets : List ℕ) (xs : List Placed) → AreBetween start stop xs → AreFrom start brackets → IsFaultFrom start (fault_in brackets xs)
+fault_past start stop brackets [] between from = unclosed_from start brackets from
+fault_past start stop brackets (x ∷ xs) between from =
+    fault_either start (ends_entry x.lexeme brackets) None _ tt
+    (fault_or start (fault_of x.at x.lexeme brackets) _ (fault_from start x.at x.lexeme brackets between.0)
+    (fault_past start stop (open_after x.at x.lexeme brackets) xs between.2 (brackets_from start x.at x.lexeme brackets between.0 from)))
+
+line_past : (file : Octets) (start at : ℕ) → start < length file → start ≤ at → (start < line_after file at) × (line_after file at ≤ length file)
+line_past file start at h from = (omega arith, omega arith)
+
+resume_past : (file : Octets) (start : ℕ) (fault : Option SyntaxFault) (end : EntryEnd) → start < length file → IsFaultFrom start fault → IsPast start (length file) end
+    → (start < resume file fault end) × (resume file fault end ≤ length file)
+resume_past file start fault (BeforeLine next) h from past = past
+resume_past file start fault (EndOfFile []) h from past = (h, omega arith)
+resume_past file start None (EndOfFile (b ∷ brackets)) h from past = line_past file start b h past.0
+resume_past file start (Some fault) (EndOfFile (b ∷ brackets)) h from past = line_past file start (max fault.at b) h (omega (arith, past.0))
+
+pub next_past : (file : Octets) (start : ℕ) → start < length file → (start < next_at file start) × (next_at file start ≤ length file)
+next_past file start h =
+    let between : AreBetween start (length file) (lexemes file start) =
+    subst (λ n. AreBetween start n (lexemes file start)) (omega (arith, length-drop start file)) (lexemes_between 0 start (drop start file) start (omega arith)) in
+    resume_past file start (fault_at file start) (end_in [] (lexemes file start)) h (fault_past start (length file) [] (lexemes file start) between tt)
+    (end_past start (length file) [] (lexemes file start) between tt)
+
+-- ---- the entries and faults of a file
+
+test_is : (n at : ℕ) → at < n → nat_le n at ≡ false
+test_is n at h = grind (arith, common_steps)
+
+test_over : (n at : ℕ) → n ≤ at → nat_le n at ≡ true
+test_over n at h = grind (arith, common_steps)
+
+items_step : (lines at : ℕ) (file : Octets) → at < length file
+    → items_in (suc lines) file at ≡ item_of file at (fault_at file at) ++ items_in lines file (next_at file at)
+unfolding items_in
+items_step lines at file h = rw (test_is (length file) at h) refl
+
+items_over : (lines at : ℕ) (file : Octets) → length file ≤ at → items_in lines file at ≡ []
+unfolding items_in
+items_over zero at file h = refl
+items_over (suc lines) at file h = rw (test_over (length file) at h) refl
+
+-- any number of lines that is enough gives all
+items_enough : (m n at : ℕ) (file : Octets) → length file ≤ at + m → length file ≤ at + n → items_in m file at ≡ items_in n file at
+items_enough zero n at file hm hn = items_over zero at file (omega arith) ∙ sym (items_over n at file (omega arith))
+items_enough (suc m) zero at file hm hn = items_over (suc m) at file (omega arith) ∙ sym (items_over zero at file (omega arith))
+items_enough (suc m) (suc n) at file hm hn = elim (cases_lt at (length file)) [
+  | inr over ↦ items_over (suc m) at file over ∙ sym (items_over (suc n) at file over)
+  | inl below ↦
+      let past = next_past file at below in
+      items_step m at file below ∙ ap (λ is. item_of file at (fault_at file at) ++ is) (items_enough m n (next_at file at) file (omega (arith, past.0)) (omega (arith, past.0)))
+      ∙ sym (items_step n at file below)
+]
+
+pub items_next : (file : Octets) (at : ℕ) → at < length file → items_from file at ≡ item_of file at (fault_at file at) ++ items_from file (next_at file at)
+items_next file at h =
+    let past = next_past file at h in
+    items_enough (length file) (suc (length file)) at file (omega arith) (omega arith) ∙ items_step (length file) at file h
+
+pub items_none : (file : Octets) (at : ℕ) → length file ≤ at → items_from file at ≡ []
+items_none file at h = items_over (length file) at file h
+
+-- ---- what is read at a line is the next item
+
+pub found_fault : (file : Octets) (start : ℕ) (fault : SyntaxFault) (next : ℕ) (tokens : List Piece) → start < length file → IsReading file start (Faulty fault next) tokens
+    → items_from file start ≡ FaultyItem fault ∷ items_from file next
+found_fault file start fault next tokens h is =
+    items_next file start h ∙ ap (λ f. item_of file start f ++ items_from file (next_at file start)) is.0 ∙ ap (λ n. FaultyItem fault ∷ items_from file n) (sym is.1)
+
+found : (file : Octets) (start next : ℕ) (tokens : List Piece) → start < length file → IsReading file start (Entry next) tokens
+    → items_from file start ≡ entry_of (begins_blank (drop start file)) tokens ++ items_from file next
+found file start next tokens h is =
+    items_next file start h ∙ ap (λ f. item_of file start f ++ items_from file (next_at file start)) is.0
+    ∙ ap (λ ts. entry_of (begins_blank (drop start file)) ts ++ items_from file (next_at file start)) (sym is.1)
+    ∙ ap (λ n. entry_of (begins_blank (drop start file)) tokens ++ items_from file n) (sym is.2)
+
+pub found_blank : (file : Octets) (start next : ℕ) (tokens : List Piece) → start < length file → IsReading file start (Entry next) tokens → true ≡ is_empty tokens
+    → items_from file start ≡ items_from file next
+found_blank file start next [] h is empty = found file start next [] h is
+found_blank file start next (t ∷ tokens) h is empty = cc
+
+pub found_entry : (file : Octets) (start next : ℕ) (tokens : List Piece) (indented : Bool) → start < length file → IsReading file start (Entry next) tokens
+    → false ≡ is_empty tokens → indented ≡ begins_blank (take (length file - start) (drop start file))
+    → items_from file start ≡ EntryItem indented tokens ∷ items_from file next
+found_entry file start next [] indented h is empty blank = cc
+found_entry file start next (t ∷ tokens) indented h is empty blank =
+    found file start next (t ∷ tokens) h is ∙ ap (λ b. EntryItem b (t ∷ tokens) ∷ items_from file next) (ap begins_blank (sym (rest_is file start)) ∙ sym blank)
+
+pub next_entry_past : (file : Octets) (start next : ℕ) (tokens : List Piece) → start < length file → IsReading file start (Entry next) tokens → (start < next) × (next ≤ length file)
+next_entry_past file start next tokens h is = let past = next_past file start h in (omega (arith, past.0, is.2), omega (arith, past.1, is.2))
+
+pub next_fault_past : (file : Octets) (start : ℕ) (fault : SyntaxFault) (next : ℕ) (tokens : List Piece) → start < length file → IsReading file start (Faulty fault next) tokens → next ≤ length file
+next_fault_past file start fault next tokens h is = let past = next_past file start h in omega (arith, past.1, is.1)

@@ -1,3 +1,4 @@
 pub mod LexemeLemmas
 pub mod EntryLemmas
 pub mod TokenLemmas
+pub mod PlaceLemmas

@@ -3,3 +3,5 @@ pub mod ErrorText
 pub mod Entries
 pub mod Tokens
 pub mod Reading
+pub mod Places
+pub mod Reader

@@ -1,5 +1,5 @@
 -- How the code keeps the tokens of an entry.
-use Rattle.std.specs.Prelude.{ℕ, Bool, List, [], ◌∷◌, Option, None, Some}
+use Rattle.std.specs.Prelude.{ℕ, Bool, true, false, List, [], ◌∷◌, Option, None, Some}
 use Rattle.domain_octets.specs.Octets.{Octets}
 use Rattle.domain_zonefile.specs.{Entries.Piece, declared.token.Token.Token}
 
@@ -21,3 +21,8 @@ piece_view piece = (piece.octets, piece.is_quoted)
 abbrev pub innermost : List ℕ → Option ℕ
 innermost [] = None
 innermost (bracket ∷ brackets) = Some bracket
+
+-- there is no token
+abbrev pub is_empty : List Piece → Bool
+is_empty [] = true
+is_empty (token ∷ tokens) = false

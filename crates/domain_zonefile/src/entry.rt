@@ -2,7 +2,7 @@
 ghost use Rattle.std.specs.Prelude.{◌≡◌, ◌≤◌, ◌<◌, ◌+◌, ◌^◌, ◌++◌, [], None, Some, ℕ, OnOk, IfOk, drop, length, max};
 ghost use Rattle.domain_zonefile.specs.Lexemes.{lexeme_at, lexeme_len, inner_len, HasBounds};
 ghost use Rattle.domain_zonefile.specs.Entries.{tokens_of, open_after, ends_entry, fault_of, line_after, resume};
-ghost use Rattle.domain_zonefile.specs.Entries.{end_in, lexemes, EndOfFile, next_at, fault_at};
+ghost use Rattle.domain_zonefile.specs.Entries.{end_in, lexemes, EndOfFile, next_at, fault_at, begins_blank};
 ghost use Rattle.domain_zonefile.specs.Reading.{IsReading, IsEnd};
 
 use crate::lexeme::{Lexeme, comment_len, len_of, lexeme_at};
@@ -17,6 +17,13 @@ pub enum Reading {
     Entry(usize),
     /// A fault, and the place where reading goes on.
     Faulty(SyntaxFault, usize),
+}
+
+/// Returns whether octets begin with a blank.
+pub fn begins_blank(text: &[u8]) -> bool
+    ensures { result ≡ begins_blank text.now }
+{
+    matches!(text, [b' ' | b'\t', ..])
 }
 
 /// Returns whether a lexeme ends the entry.

@@ -4,9 +4,13 @@
 mod entry;
 mod error;
 mod lexeme;
+mod place;
+mod reader;
 mod token;
 
 pub use error::{SyntaxError, SyntaxFault};
+pub use place::{Place, has_mark};
+pub use reader::{EntryReader, Found};
 pub use token::Token;
 
 #[cfg(test)]

@@ -1,6 +1,6 @@
 //! The tokens of an entry, and the brackets around them.
 ghost use Rattle.std.specs.Prelude.{◌≡◌, ◌∷◌, ◌++◌, [], Option, drop, map, length, OnOk, OnErr, reverse};
-ghost use Rattle.domain_zonefile.specs.Tokens.{innermost, token_view, piece_view};
+ghost use Rattle.domain_zonefile.specs.Tokens.{innermost, token_view, piece_view, is_empty};
 ghost use Rattle.domain_zonefile.specs.Entries.{is_outside};
 
 use domain_octets::OutOfMemory;
@@ -69,6 +69,13 @@ impl<'a> Tokens<'a> {
             return Err(OutOfMemory);
         }
         Ok(())
+    }
+
+    /// Returns whether there are none.
+    pub fn is_empty(&self) -> bool
+        ensures { result ≡ is_empty self.now }
+    {
+        self.tokens.is_empty()
     }
 
     /// Returns the tokens.

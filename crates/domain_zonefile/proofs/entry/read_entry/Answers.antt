@@ -1,4 +1,4 @@
-use Rattle.std.proofs.Common.{ap, arith, ◌∙◌, sym, Some, []}
+use Rattle.std.proofs.Common.{[]}
 use Rattle.domain_zonefile.proofs.EntryLemmas.{enter_line, enter_fault, enter_more, entering_end}
 use Rattle.domain_zonefile.proofs.entry.read_entry.Goals as goal
 

@@ -1,5 +1,4 @@
-use Rattle.std.proofs.Common.{ap, arith, ◌∙◌, sym, Some}
-use Rattle.std.proofs.lemmas.Grind.{common_steps}
+use Rattle.std.proofs.Common.{ap, Some}
 use Rattle.domain_zonefile.specs.Entries.{resume}
 use Rattle.domain_zonefile.proofs.EntryLemmas.{skip_line, skip_more, skip_end, resume_some, resume_none}
 use Rattle.domain_zonefile.proofs.entry.resume.Goals as goal

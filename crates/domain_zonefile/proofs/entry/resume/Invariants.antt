@@ -1,4 +1,4 @@
-use Rattle.std.proofs.Common.{length, ◌-◌, ◌≤◌, ◌≡◌}
+use Rattle.std.proofs.Common.{length, ◌-◌}
 use Rattle.domain_zonefile.specs.Entries.{end_in, lexemes}
 use Rattle.domain_zonefile.proofs.EntryLemmas.{Skipping}
 use Rattle.domain_zonefile.proofs.entry.resume.Given as goal

@@ -1,4 +1,4 @@
-use Rattle.std.proofs.{Common.{arith, map, ap, ◌∙◌}, lemmas.Grind.common_steps}
+use Rattle.std.proofs.{Common.{map, ap, ◌∙◌}}
 use Rattle.domain_zonefile.specs.Entries.{Piece}
 use Rattle.domain_zonefile.proofs.TokenLemmas.{pieces_places}
 use Rattle.domain_zonefile.proofs.token.Tokens.places.Goals as goal

@@ -1,4 +1,4 @@
-use Rattle.std.proofs.{Common.{arith, map, ap, ◌∙◌}, lemmas.Grind.common_steps}
+use Rattle.std.proofs.{Common.{map, ap, ◌∙◌}}
 use Rattle.domain_zonefile.specs.Tokens.{token_view, piece_view}
 use Rattle.domain_zonefile.proofs.TokenLemmas.{pieces_tokens}
 use Rattle.domain_zonefile.proofs.token.Tokens.tokens.Goals as goal
