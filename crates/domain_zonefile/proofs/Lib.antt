@@ -2,3 +2,4 @@ pub mod LexemeLemmas
 pub mod EntryLemmas
 pub mod TokenLemmas
 pub mod PlaceLemmas
+pub mod TtlLemmas

@@ -5,3 +5,4 @@ pub mod Tokens
 pub mod Reading
 pub mod Places
 pub mod Reader
+pub mod Ttls
