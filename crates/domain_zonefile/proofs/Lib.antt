@@ -3,3 +3,4 @@ pub mod EntryLemmas
 pub mod TokenLemmas
 pub mod PlaceLemmas
 pub mod TtlLemmas
+pub mod FieldLemmas

@@ -6,3 +6,5 @@ pub mod Reading
 pub mod Places
 pub mod Reader
 pub mod Ttls
+pub mod ZoneClasses
+pub mod Fields

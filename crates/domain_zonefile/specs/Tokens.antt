@@ -11,10 +11,13 @@ pieces_of (token ∷ tokens) (place ∷ places) =
     record { at = place; octets = token.octets.now; is_quoted = token.is_quoted } ∷ pieces_of tokens places
 
 -- the octets of a token, and whether it was quoted
-abbrev pub token_view : Token → Octets × Bool
+abbrev pub TokenView : Type 0
+TokenView = Octets × Bool
+
+abbrev pub token_view : Token → TokenView
 token_view token = (token.octets.now, token.is_quoted)
 
-abbrev pub piece_view : Piece → Octets × Bool
+abbrev pub piece_view : Piece → TokenView
 piece_view piece = (piece.octets, piece.is_quoted)
 
 -- the first of the open brackets
