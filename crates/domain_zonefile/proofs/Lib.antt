@@ -4,3 +4,4 @@ pub mod TokenLemmas
 pub mod PlaceLemmas
 pub mod TtlLemmas
 pub mod FieldLemmas
+pub mod LawLemmas

@@ -1,6 +1,6 @@
 -- The entries of a zone file: its lexemes, cut at the line ends outside of brackets (RFC 1035,
 -- section 5.1). An entry is a list of tokens, or has a fault.
-use Rattle.std.specs.Prelude.{ℕ, zero, suc, ◌+◌, ◌-◌, Bool, true, false, List, [], ◌∷◌, ◌++◌, length, take, drop, Option, Some, None, if◌then◌else◌, nat_le, min, max}
+use Rattle.std.specs.Prelude.{◌≡◌, ℕ, zero, suc, ◌+◌, ◌-◌, Bool, true, false, List, [], ◌∷◌, ◌++◌, length, take, drop, Option, Some, None, if◌then◌else◌, nat_le, min, max}
 use Rattle.std.specs.List.{prefix_len}
 use Rattle.domain_octets.specs.Octets.{Octets}
 use Rattle.domain_zonefile.specs.Lexemes.{is_blank, is_comment, lexeme_at, lexeme_len}
@@ -183,3 +183,9 @@ items_in (suc lines) file at =
 -- the entries and faults of a file from a place on, in order
 abbrev pub items_from : Octets → ℕ → List Item
 items_from file at = items_in (length file) file at
+
+-- the octets of a token are those of the file at its place, behind an opening quote
+abbrev pub IsOfFile : Octets → Piece → Type 0
+IsOfFile file token =
+    token.octets
+    ≡ take (length token.octets) (drop (if token.is_quoted then token.at + 1 else token.at) file)

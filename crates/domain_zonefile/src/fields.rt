@@ -1,9 +1,11 @@
 //! The fields of an entry before its data (RFC 1035, section 5.1).
-ghost use Rattle.std.specs.Prelude.{◌≡◌, map, drop};
+ghost use Rattle.std.specs.Prelude.{◌≡◌, map, Some, codes};
 ghost use Rattle.domain_zonefile.specs.Fields.{ttl_field, class_field, first_ttl, first_class, prefix_of, then_class, then_ttl};
 ghost use Rattle.domain_zonefile.specs.Tokens.{token_view};
 
 use crate::{Token, TtlText, read_class, read_ttl};
+use std::error::Error;
+use std::fmt;
 
 /// The TTL and the class before a type, where they are given.
 #[derive(Clone, Copy, Debug, PartialEq, Eq)]
@@ -16,16 +18,22 @@ pub struct Prefix {
     pub count: usize,
 }
 
-/// A fault of the fields of an entry.
+/// The error of a TTL of more than 32 bits (RFC 2181, section 8).
 #[derive(Clone, Copy, Debug, PartialEq, Eq)]
-pub enum FieldFault {
-    /// The token with this number, from 0, is a TTL of more than 32 bits.
-    LargeTtl(usize),
-    /// The entry has no owner, and no entry before it has one.
-    NoOwner,
-    /// No type follows the token with this number.
-    NoType(usize),
+pub struct LargeTtl {
+    /// The number of its token, from 0.
+    pub token: usize,
 }
+
+impl fmt::Display for LargeTtl {
+    ghost output = { λ _. Some (codes "TTL of more than 32 bits") };
+
+    fn fmt<W: fmt::Write>(&self, f: &mut fmt::Formatter<W>) -> fmt::Result {
+        f.write_str("TTL of more than 32 bits")
+    }
+}
+
+impl Error for LargeTtl {}
 
 /// Returns a token as a TTL. A quoted token is none.
 fn ttl_field(token: &Token) -> TtlText
@@ -79,7 +87,7 @@ fn then_class(ttl: u32, class: Option<u16>) -> Prefix
 }
 
 /// Returns the prefix of a class, and of a TTL if one follows.
-fn then_ttl(class: u16, ttl: TtlText) -> Result<Prefix, FieldFault>
+fn then_ttl(class: u16, ttl: TtlText) -> Result<Prefix, LargeTtl>
     ensures { result ≡ then_ttl class ttl }
 {
     let class = Some(class);
@@ -89,7 +97,7 @@ fn then_ttl(class: u16, ttl: TtlText) -> Result<Prefix, FieldFault>
             class,
             count: 1,
         }),
-        TtlText::TooLarge => Err(FieldFault::LargeTtl(1)),
+        TtlText::TooLarge => Err(LargeTtl { token: 1 }),
         TtlText::Seconds(seconds) => Ok(Prefix {
             ttl: Some(seconds),
             class,
@@ -103,13 +111,13 @@ fn then_ttl(class: u16, ttl: TtlText) -> Result<Prefix, FieldFault>
 /// # Errors
 ///
 /// `LargeTtl` if a TTL there has more than 32 bits.
-pub fn read_prefix(tokens: &[Token]) -> Result<Prefix, FieldFault>
+pub fn read_prefix(tokens: &[Token]) -> Result<Prefix, LargeTtl>
     ensures { result ≡ prefix_of (map token_view tokens.now) }
 {
     let rest = tokens.get(1..).unwrap_or(&[]);
     match first_ttl(tokens) {
         TtlText::Seconds(ttl) => Ok(then_class(ttl, first_class(rest))),
-        TtlText::TooLarge => Err(FieldFault::LargeTtl(0)),
+        TtlText::TooLarge => Err(LargeTtl { token: 0 }),
         TtlText::NoTtl => match first_class(tokens) {
             Some(class) => then_ttl(class, first_ttl(rest)),
             None => Ok(Prefix {

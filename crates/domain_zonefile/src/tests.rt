@@ -1,6 +1,9 @@
 //! The rules of tokens, as tables. Each row has a file and what is read from it: a line for each
 //! entry, with a bar after each token, and a line for each fault, with its place.
-use crate::{EntryReader, Found, Place, SyntaxError};
+use crate::{
+    EntryReader, Found, LargeTtl, Place, Prefix, SyntaxError, TtlText, read_class, read_prefix,
+    read_ttl,
+};
 use std::alloc::Global;
 use std::process::Abort;
 use std::test::Fail;
@@ -184,5 +187,74 @@ fn places(rt: HostRuntime) -> Result<(), Fail> {
     assert_eq!(rt; reader.tokens().len(), 0);
     assert_eq!(rt; reader.file().len(), 12);
     assert_eq!(rt; crate::has_mark(b"\xef\xbb\xbf"), true);
+    Ok(())
+}
+
+#[test]
+fn ttls(rt: HostRuntime) {
+    let rows: [(&[u8], TtlText); 13] = [
+        (b"0", TtlText::Seconds(0)),
+        (b"3600", TtlText::Seconds(3600)),
+        (b"1h30m", TtlText::Seconds(5400)),
+        (b"1W2D3h4M5s", TtlText::Seconds(788_645)),
+        (b"30m1h", TtlText::Seconds(5400)),
+        (b"4294967295", TtlText::Seconds(u32::MAX)),
+        (b"4294967296", TtlText::TooLarge),
+        (b"99999999999999999999w1s", TtlText::TooLarge),
+        (b"1h30", TtlText::NoTtl),
+        (b"h", TtlText::NoTtl),
+        (b"", TtlText::NoTtl),
+        (b"1h-", TtlText::NoTtl),
+        (b"IN", TtlText::NoTtl),
+    ];
+    for (text, wanted) in rows {
+        assert_eq!(rt; read_ttl(text), wanted);
+    }
+}
+
+#[test]
+fn classes(rt: HostRuntime) {
+    let rows: [(&[u8], Option<u16>); 12] = [
+        (b"in", Some(1)),
+        (b"CH", Some(3)),
+        (b"Chaos", Some(3)),
+        (b"HS", Some(4)),
+        (b"HESIOD", Some(4)),
+        (b"CLASS1", Some(1)),
+        (b"class65535", Some(65535)),
+        (b"CLASS0", None),
+        (b"CLASS65536", None),
+        (b"CLASS", None),
+        (b"CLASSx", None),
+        (b"ANY", None),
+    ];
+    for (text, wanted) in rows {
+        assert_eq!(rt; read_class(text), wanted);
+    }
+}
+
+/// Returns a prefix of these fields.
+fn prefix(ttl: Option<u32>, class: Option<u16>, count: usize) -> Result<Prefix, LargeTtl> {
+    Ok(Prefix { ttl, class, count })
+}
+
+#[test]
+fn prefixes(rt: HostRuntime) -> Result<(), Fail> {
+    let rows: [(&[u8], Result<Prefix, LargeTtl>); 8] = [
+        (b"1h IN A x", prefix(Some(3600), Some(1), 2)),
+        (b"CH 60 A x", prefix(Some(60), Some(3), 2)),
+        (b"60 A x", prefix(Some(60), None, 1)),
+        (b"IN A x", prefix(None, Some(1), 1)),
+        (b"A 60 IN", prefix(None, None, 0)),
+        (b"\"60\" IN A", prefix(None, None, 0)),
+        (b"4294967296 IN A", Err(LargeTtl { token: 0 })),
+        (b"IN 8000w A", Err(LargeTtl { token: 1 })),
+    ];
+    for (file, wanted) in rows {
+        let mut reader = EntryReader::new(rt.alloc(), file);
+        let found = reader.next_entry()?;
+        assert_eq!(rt; found, Some(Found::Entry(false)));
+        assert_eq!(rt; read_prefix(reader.tokens()), wanted);
+    }
     Ok(())
 }
