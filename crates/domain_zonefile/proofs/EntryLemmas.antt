@@ -1,13 +1,18 @@
 -- Entries: how they go on from lexeme to lexeme.
-use Rattle.std.proofs.Common.{arith, ℕ, zero, suc, ◌+◌, ◌-◌, ◌<◌, ◌≤◌, ◌≡◌, ◌∷◌, ◌++◌, [], List, refl, ap, subst, ◌∙◌, sym, length, take, drop, get_or, Bool, true, false, Option, Some, None, append_assoc, inl, inr}
+use Rattle.std.proofs.Common.{arith, ℕ, zero, suc, ◌+◌, ◌-◌, ◌<◌, ◌≤◌, ◌≡◌, ◌∷◌, ◌++◌, [], List, refl, ap, subst, ◌∙◌, sym, length, take, drop}
+use Rattle.std.proofs.Common.{get_or, Bool, true, false, Option, Some, None, append_assoc, inl, inr}
 use Rattle.std.proofs.{lemmas.Bool.cases_lt, lemmas.Grind.common_steps, lemmas.List.{drop-drop, append-nil, length-drop}}
 use Rattle.std.specs.Prelude.{if◌then◌else◌, max, nat_le}
 use Rattle.domain_octets.specs.Octets.{Octets}
 use Rattle.domain_zonefile.proofs.LexemeLemmas.{split_at, lexeme_bounds, lexeme_within, rest_is}
 use Rattle.domain_zonefile.specs.Lexemes.{lexeme_at, lexeme_len, HasBounds}
 use Rattle.domain_zonefile.specs.Entries.{Placed, placed, lexemes_from, lexemes, Piece, tokens_of, open_after, ends_entry, fault_of}
-use Rattle.domain_zonefile.specs.Entries.{tokens_in, or_else, unclosed_bracket, fault_in, EntryEnd, BeforeLine, EndOfFile, end_in, resume, tokens_at, fault_at, next_at, line_after, item_of, items_in, items_from, entry_of, begins_blank, Entry as EntryItem, Faulty as FaultyItem}
-use Rattle.domain_zonefile.specs.{Tokens.{innermost, is_empty}, Reading.{IsReading, IsEnd}, declared.error.SyntaxFault.SyntaxFault, declared.lexeme.Lexeme.{Lexeme, TheVariants.{Gap, LineEnd, Open, Close, Word, Quoted, Bad}}}
+use Rattle.domain_zonefile.specs.Entries.{tokens_in, or_else, unclosed_bracket, fault_in, EntryEnd, BeforeLine, EndOfFile, end_in, resume, tokens_at}
+use Rattle.domain_zonefile.specs.Entries.{fault_at, next_at, line_after, item_of, items_in, items_from, entry_of, begins_blank, Entry as EntryItem}
+use Rattle.domain_zonefile.specs.Entries.{Faulty as FaultyItem}
+use Rattle.domain_zonefile.specs.{Tokens.{innermost, is_empty}, Reading.{IsReading, IsEnd}}
+use Rattle.domain_zonefile.specs.declared.{error.SyntaxFault.SyntaxFault, lexeme.Lexeme.{Lexeme, TheVariants.{Gap, LineEnd, Open, Close}}}
+use Rattle.domain_zonefile.specs.declared.lexeme.Lexeme.TheVariants.{Word, Quoted, Bad}
 use Rattle.domain_zonefile.specs.declared.entry.Reading.{Reading, TheVariants.{Entry, Faulty}}
 
 -- ---- the lexemes of a file, one after the other
@@ -59,9 +64,6 @@ pub record Entering (file : Octets) (start at : ℕ) (tokens : List Piece) (brac
   pub fault : fault_in brackets (lexemes file at) ≡ fault_at file start
   pub end : end_in brackets (lexemes file at) ≡ end_in [] (lexemes file start)
 
-pub entering_start : (file : Octets) (start : ℕ) → start ≤ length file → Entering file start start [] []
-entering_start file start h = record { within = h; so_far = refl; fault = refl; end = refl }
-
 -- the next lexeme
 ends_here : (file : Octets) (at : ℕ) (brackets : List ℕ) → at < length file → ends_entry (lexeme_at (drop at file)) brackets ≡ true
     → (tokens_in brackets (lexemes file at) ≡ []) × (fault_in brackets (lexemes file at) ≡ None) × (end_in brackets (lexemes file at) ≡ BeforeLine (at + 1))
@@ -69,16 +71,19 @@ ends_here file at brackets h ends = rw (lexemes_more file at h, ends) (refl, ref
 
 goes_on : (file : Octets) (at : ℕ) (brackets : List ℕ) → at < length file → ends_entry (lexeme_at (drop at file)) brackets ≡ false
     → (tokens_in brackets (lexemes file at)
-    ≡ tokens_of at (lexeme_at (drop at file)) (drop at file) ++ tokens_in (open_after at (lexeme_at (drop at file)) brackets) (lexemes file (at + lexeme_len (lexeme_at (drop at file)))))
+    ≡ tokens_of at (lexeme_at (drop at file)) (drop at file)
+    ++ tokens_in (open_after at (lexeme_at (drop at file)) brackets) (lexemes file (at + lexeme_len (lexeme_at (drop at file)))))
     × (fault_in brackets (lexemes file at)
-    ≡ or_else (fault_of at (lexeme_at (drop at file)) brackets) (fault_in (open_after at (lexeme_at (drop at file)) brackets) (lexemes file (at + lexeme_len (lexeme_at (drop at file))))))
+    ≡ or_else (fault_of at (lexeme_at (drop at file)) brackets) (fault_in (open_after at (lexeme_at (drop at file)) brackets) (lexemes file
+    (at + lexeme_len (lexeme_at (drop at file))))))
     × (end_in brackets (lexemes file at)
     ≡ end_in (open_after at (lexeme_at (drop at file)) brackets) (lexemes file (at + lexeme_len (lexeme_at (drop at file)))))
 goes_on file at brackets h ends = rw (lexemes_more file at h, ends) (refl, refl, refl)
 
 pub entering_more : (file : Octets) (start at : ℕ) (tokens : List Piece) (brackets : List ℕ) → Entering file start at tokens brackets → at < length file
     → ends_entry (lexeme_at (drop at file)) brackets ≡ false → fault_of at (lexeme_at (drop at file)) brackets ≡ None
-    → Entering file start (at + lexeme_len (lexeme_at (drop at file))) (tokens ++ tokens_of at (lexeme_at (drop at file)) (drop at file)) (open_after at (lexeme_at (drop at file)) brackets)
+    → Entering file start (at + lexeme_len (lexeme_at (drop at file))) (tokens
+    ++ tokens_of at (lexeme_at (drop at file)) (drop at file)) (open_after at (lexeme_at (drop at file)) brackets)
 entering_more file start at tokens brackets e h ends fine =
     let on = goes_on file at brackets h ends in
     let x = lexeme_at (drop at file) in
@@ -159,7 +164,8 @@ pub skip_line : (file : Octets) (at : ℕ) (brackets : List ℕ) (whole : EntryE
     → x ≡ lexeme_at (take (length file - at) (drop at file)) → true ≡ ends_entry x brackets → BeforeLine (at + 1) ≡ whole
 skip_line file at brackets whole x s h is ends = sym (skipping_line file at brackets h (ends_at file at brackets x true is ends)) ∙ s.end
 
-pub skip_more : (file : Octets) (at : ℕ) (brackets after : List ℕ) (whole : EntryEnd) (x : Lexeme) (len : ℕ) → Skipping file at brackets whole → at < length file
+pub skip_more : (file : Octets) (at : ℕ) (brackets after : List ℕ) (whole : EntryEnd) (x : Lexeme) (len : ℕ) → Skipping file at brackets whole
+    → at < length file
     → x ≡ lexeme_at (take (length file - at) (drop at file)) → false ≡ ends_entry x brackets → after ≡ open_after at x brackets → len ≡ lexeme_len x
     → Skipping file (at + len) after whole
 skip_more file at brackets after whole x len s h is ends next len_is =
@@ -171,7 +177,8 @@ skip_more file at brackets after whole x len s h is ends next len_is =
 pub skip_end : (file : Octets) (at : ℕ) (brackets : List ℕ) (whole : EntryEnd) → Skipping file at brackets whole → length file ≤ at → EndOfFile brackets ≡ whole
 skip_end file at brackets whole s h = sym (skipping_end file at brackets h) ∙ s.end
 
-pub enter_line : (file : Octets) (start at : ℕ) (tokens : List Piece) (brackets : List ℕ) (x : Lexeme) → Entering file start at tokens brackets → at < length file
+pub enter_line : (file : Octets) (start at : ℕ) (tokens : List Piece) (brackets : List ℕ) (x : Lexeme) → Entering file start at tokens brackets
+    → at < length file
     → x ≡ lexeme_at (take (length file - at) (drop at file)) → true ≡ ends_entry x brackets → IsReading file start (Entry (at + 1)) tokens
 enter_line file start at tokens brackets x e h is ends = entering_line file start at tokens brackets e h (ends_at file at brackets x true is ends)
 
@@ -184,11 +191,13 @@ enter_fault file start at tokens brackets x fault next after e h is ends bad nex
 
 pub enter_more : (file : Octets) (start at : ℕ) (tokens more : List Piece) (brackets after : List ℕ) (x : Lexeme) (len : ℕ)
     → Entering file start at tokens brackets → at < length file → x ≡ lexeme_at (take (length file - at) (drop at file)) → false ≡ ends_entry x brackets
-    → None ≡ fault_of at x brackets → more ≡ tokens ++ tokens_of at x (take (length file - at) (drop at file)) → after ≡ open_after at x brackets → len ≡ lexeme_len x
+    → None ≡ fault_of at x brackets → more ≡ tokens ++ tokens_of at x (take (length file - at) (drop at file)) → after ≡ open_after at x brackets
+    → len ≡ lexeme_len x
     → Entering file start (at + len) more after
 enter_more file start at tokens more brackets after x len e h is ends fine more_is next len_is =
     let here = read_here file at x is in
-    let on = entering_more file start at tokens brackets e h (ends_at file at brackets x false is ends) (ap (λ y. fault_of at y brackets) (sym here) ∙ sym fine) in
+    let on = entering_more file start at tokens brackets e h (ends_at file at brackets x false is ends) (ap (λ y. fault_of at y brackets)
+    (sym here) ∙ sym fine) in
     rw (len_is, next, more_is, rest_is, here) on
 
 pub resume_some : (file : Octets) (fault : SyntaxFault) (brackets : List ℕ) (bracket : ℕ) (whole : EntryEnd) (last next : ℕ) → EndOfFile brackets ≡ whole
@@ -278,7 +287,8 @@ unclosed_from : (start : ℕ) (brackets : List ℕ) → AreFrom start brackets �
 unclosed_from start [] from = tt
 unclosed_from start (b ∷ brackets) from = from.0
 
-fault_past : (start stop : ℕ) (brackets : List ℕ) (xs : List Placed) → AreBetween start stop xs → AreFrom start brackets → IsFaultFrom start (fault_in brackets xs)
+fault_past : (start stop : ℕ) (brackets : List ℕ) (xs : List Placed) → AreBetween start stop xs → AreFrom start brackets
+    → IsFaultFrom start (fault_in brackets xs)
 fault_past start stop brackets [] between from = unclosed_from start brackets from
 fault_past start stop brackets (x ∷ xs) between from =
     fault_either start (ends_entry x.lexeme brackets) None _ tt
@@ -288,7 +298,8 @@ fault_past start stop brackets (x ∷ xs) between from =
 line_past : (file : Octets) (start at : ℕ) → start < length file → start ≤ at → (start < line_after file at) × (line_after file at ≤ length file)
 line_past file start at h from = (omega arith, omega arith)
 
-resume_past : (file : Octets) (start : ℕ) (fault : Option SyntaxFault) (end : EntryEnd) → start < length file → IsFaultFrom start fault → IsPast start (length file) end
+resume_past : (file : Octets) (start : ℕ) (fault : Option SyntaxFault) (end : EntryEnd) → start < length file → IsFaultFrom start fault
+    → IsPast start (length file) end
     → (start < resume file fault end) × (resume file fault end ≤ length file)
 resume_past file start fault (BeforeLine next) h from past = past
 resume_past file start fault (EndOfFile []) h from past = (h, omega arith)
@@ -298,7 +309,8 @@ resume_past file start (Some fault) (EndOfFile (b ∷ brackets)) h from past = l
 pub next_past : (file : Octets) (start : ℕ) → start < length file → (start < next_at file start) × (next_at file start ≤ length file)
 next_past file start h =
     let between : AreBetween start (length file) (lexemes file start) =
-    subst (λ n. AreBetween start n (lexemes file start)) (omega (arith, length-drop start file)) (lexemes_between 0 start (drop start file) start (omega arith)) in
+    subst (λ n. AreBetween start n (lexemes file start)) (omega (arith, length-drop start file)) (lexemes_between 0 start (drop start file) start
+    (omega arith)) in
     resume_past file start (fault_at file start) (end_in [] (lexemes file start)) h (fault_past start (length file) [] (lexemes file start) between tt)
     (end_past start (length file) [] (lexemes file start) between tt)
 
@@ -328,7 +340,8 @@ items_enough (suc m) (suc n) at file hm hn = elim (cases_lt at (length file)) [
   | inr over ↦ items_over (suc m) at file over ∙ sym (items_over (suc n) at file over)
   | inl below ↦
       let past = next_past file at below in
-      items_step m at file below ∙ ap (λ is. item_of file at (fault_at file at) ++ is) (items_enough m n (next_at file at) file (omega (arith, past.0)) (omega (arith, past.0)))
+      items_step m at file below ∙ ap (λ is. item_of file at (fault_at file at)
+      ++ is) (items_enough m n (next_at file at) file (omega (arith, past.0)) (omega (arith, past.0)))
       ∙ sym (items_step n at file below)
 ]
 
@@ -342,10 +355,12 @@ items_none file at h = items_over (length file) at file h
 
 -- ---- what is read at a line is the next item
 
-pub found_fault : (file : Octets) (start : ℕ) (fault : SyntaxFault) (next : ℕ) (tokens : List Piece) → start < length file → IsReading file start (Faulty fault next) tokens
+pub found_fault : (file : Octets) (start : ℕ) (fault : SyntaxFault) (next : ℕ) (tokens : List Piece) → start < length file
+    → IsReading file start (Faulty fault next) tokens
     → items_from file start ≡ FaultyItem fault ∷ items_from file next
 found_fault file start fault next tokens h is =
-    items_next file start h ∙ ap (λ f. item_of file start f ++ items_from file (next_at file start)) is.0 ∙ ap (λ n. FaultyItem fault ∷ items_from file n) (sym is.1)
+    items_next file start h ∙ ap (λ f. item_of file start f ++ items_from file (next_at file start)) is.0
+    ∙ ap (λ n. FaultyItem fault ∷ items_from file n) (sym is.1)
 
 found : (file : Octets) (start next : ℕ) (tokens : List Piece) → start < length file → IsReading file start (Entry next) tokens
     → items_from file start ≡ entry_of (begins_blank (drop start file)) tokens ++ items_from file next
@@ -354,7 +369,8 @@ found file start next tokens h is =
     ∙ ap (λ ts. entry_of (begins_blank (drop start file)) ts ++ items_from file (next_at file start)) (sym is.1)
     ∙ ap (λ n. entry_of (begins_blank (drop start file)) tokens ++ items_from file n) (sym is.2)
 
-pub found_blank : (file : Octets) (start next : ℕ) (tokens : List Piece) → start < length file → IsReading file start (Entry next) tokens → true ≡ is_empty tokens
+pub found_blank : (file : Octets) (start next : ℕ) (tokens : List Piece) → start < length file → IsReading file start (Entry next) tokens
+    → true ≡ is_empty tokens
     → items_from file start ≡ items_from file next
 found_blank file start next [] h is empty = found file start next [] h is
 found_blank file start next (t ∷ tokens) h is empty = cc
@@ -366,8 +382,10 @@ found_entry file start next [] indented h is empty blank = cc
 found_entry file start next (t ∷ tokens) indented h is empty blank =
     found file start next (t ∷ tokens) h is ∙ ap (λ b. EntryItem b (t ∷ tokens) ∷ items_from file next) (ap begins_blank (sym (rest_is file start)) ∙ sym blank)
 
-pub next_entry_past : (file : Octets) (start next : ℕ) (tokens : List Piece) → start < length file → IsReading file start (Entry next) tokens → (start < next) × (next ≤ length file)
+pub next_entry_past : (file : Octets) (start next : ℕ) (tokens : List Piece) → start < length file → IsReading file start (Entry next) tokens
+    → (start < next) × (next ≤ length file)
 next_entry_past file start next tokens h is = let past = next_past file start h in (omega (arith, past.0, is.2), omega (arith, past.1, is.2))
 
-pub next_fault_past : (file : Octets) (start : ℕ) (fault : SyntaxFault) (next : ℕ) (tokens : List Piece) → start < length file → IsReading file start (Faulty fault next) tokens → next ≤ length file
+pub next_fault_past : (file : Octets) (start : ℕ) (fault : SyntaxFault) (next : ℕ) (tokens : List Piece) → start < length file
+    → IsReading file start (Faulty fault next) tokens → next ≤ length file
 next_fault_past file start fault next tokens h is = let past = next_past file start h in omega (arith, past.1, is.1)

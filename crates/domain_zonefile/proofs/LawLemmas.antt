@@ -1,10 +1,10 @@
 -- Theorems about tokens.
-use Rattle.std.proofs.Common.{arith, ℕ, zero, suc, ◌+◌, ◌-◌, ◌≡◌, ◌∷◌, ◌++◌, [], List, refl, ap, ◌∙◌, sym, length, take, drop, true, false, Bool}
-use Rattle.std.proofs.{lemmas.Grind.common_steps, lemmas.List.drop-drop}
+use Rattle.std.proofs.Common.{ℕ, zero, suc, ◌+◌, ◌-◌, ◌≡◌, ◌∷◌, ◌++◌, [], List, refl, ap, ◌∙◌, length, take, drop, true, false, Bool}
+use Rattle.std.proofs.{lemmas.List.drop-drop}
 use Rattle.std.specs.{List.AllByRecursion, Prelude.{if◌then◌else◌}}
 use Rattle.domain_octets.specs.Octets.{Octets}
 use Rattle.domain_zonefile.specs.Lexemes.{lexeme_at, lexeme_len}
-use Rattle.domain_zonefile.specs.Entries.{Placed, placed, lexemes_from, lexemes, Piece, tokens_of, open_after, ends_entry, tokens_in, tokens_at, IsOfFile}
+use Rattle.domain_zonefile.specs.Entries.{Placed, lexemes_from, lexemes, Piece, tokens_of, open_after, ends_entry, tokens_in, tokens_at, IsOfFile}
 use Rattle.domain_zonefile.specs.declared.lexeme.Lexeme.{Lexeme, TheVariants.{Gap, LineEnd, Open, Close, Word, Quoted, Bad}}
 
 -- each lexeme has the octets of the file from its place on

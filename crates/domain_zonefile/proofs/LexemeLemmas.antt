@@ -1,10 +1,12 @@
 -- Lexemes: how runs, tokens and quoted tokens go on, and how long lexemes are.
-use Rattle.std.proofs.Common.{arith, ℕ, suc, ◌+◌, ◌-◌, ◌<◌, ◌≤◌, ◌≡◌, ◌≢◌, ◌∷◌, [], refl, ap, ◌∙◌, sym, length, take, drop, get_or, add-one, Bool, true, false, Option, Some, None}
+use Rattle.std.proofs.Common.{arith, ℕ, suc, ◌+◌, ◌-◌, ◌<◌, ◌≤◌, ◌≡◌, ◌≢◌, ◌∷◌, [], refl, ap, ◌∙◌, sym, length, take, drop, get_or, add-one, Bool}
+use Rattle.std.proofs.Common.{true, false, Option, Some, None}
 use Rattle.std.proofs.{Math.Seq.drop-cons, lemmas.Grind.common_steps, lemmas.List.drop-drop}
 use Rattle.std.proofs.lemmas.List.Sums.{prefix_len-drop_yes, prefix_len-drop_no, prefix_len-drop_all, prefix_len-le-length}
 use Rattle.std.specs.{List.prefix_len, Prelude.{◌&&◌, ◌==◌, if◌then◌else◌}}
 use Rattle.domain_octets.specs.Octets.{Octets}
-use Rattle.domain_zonefile.specs.Lexemes.{is_blank, is_comment, is_return, is_separator, is_escape, quoted_from, word_from, valued, quoted_fault, quoted_step, first_fault, with_fault}
+use Rattle.domain_zonefile.specs.Lexemes.{is_blank, is_comment, is_return, is_separator, is_escape, quoted_from, word_from, valued, quoted_fault}
+use Rattle.domain_zonefile.specs.Lexemes.{quoted_step, first_fault, with_fault}
 use Rattle.domain_zonefile.specs.Lexemes.{equals_after, is_after, lexeme_at, lexeme_len, HasBounds, inner_len, begins_apart, begins_at_line_end, returns_at}
 use Rattle.domain_zonefile.specs.declared.lexeme.Lexeme.{Lexeme, TheVariants.{Gap, LineEnd, Open, Close, Word, Quoted, Bad}}
 use Rattle.domain_zonefile.specs.declared.error.SyntaxError.{SyntaxError, TheVariants.{BadEscape, UnclosedQuote, MisplacedQuote, NoSeparator, StrayReturn, Nul}}
@@ -73,7 +75,8 @@ pub word_escape : (text : Octets) (n : ℕ) (equals : Option ℕ) → n < length
     → word_from n false equals (drop n text) ≡ word_from (n + 2) false equals (drop (n + 2) text)
 unfolding word_from
 word_escape text n equals h slash good =
-    let here : word_from n false equals (drop n text) ≡ word_from (n + 1) true equals (drop (n + 1) text) = rw (split_at text n h) (grind (arith, common_steps)) in
+    let here : word_from n false equals (drop n text) ≡ word_from (n + 1) true equals (drop (n + 1) text) = rw (split_at text n h) (grind
+    (arith, common_steps)) in
     let next : word_from (n + 1) true equals (drop (n + 1) text) ≡ word_from (n + 1 + 1) false equals (drop (n + 1 + 1) text) =
     rw (split_at text (n + 1) (escape_here text (n + 1) good).0) refl in
     here ∙ next ∙ ap (λ k. word_from k false equals (drop k text)) (omega arith)
@@ -137,7 +140,8 @@ quoting_by text n fault false so_far h is step =
     record { within = omega arith; begun = omega arith; same = sym step ∙ so_far.same }
 
 -- a step over one octet, or over an escape's first two
-pub quoting_more : (text : Octets) (n : ℕ) (fault : Option (SyntaxError × ℕ)) → Quoting text n fault → n < length text → get_or text n 0 ≢ 10 → get_or text n 0 ≢ 34
+pub quoting_more : (text : Octets) (n : ℕ) (fault : Option (SyntaxError × ℕ)) → Quoting text n fault → n < length text → get_or text n 0 ≢ 10
+    → get_or text n 0 ≢ 34
     → Quoting text (n + quoted_step (get_or text n 0) (drop (n + 1) text)) (first_fault fault (quoted_fault (get_or text n 0) (drop (n + 1) text)) n)
 quoting_more text n fault so_far h line quote =
     quoting_by text n fault (get_or text n 0 == 92 && is_escape (drop (n + 1) text)) so_far h refl
@@ -166,7 +170,8 @@ valued_other n text (Quoted len) fine = refl
 pub valued_at : (text : Octets) (n : ℕ) (x : Lexeme) (apart : Bool) → x ≡ quoted_from 1 false (drop 1 (take (length text - n) (drop n text)))
     → ((len : ℕ) (error : SyntaxError) (at : ℕ) → x ≡ Bad len error at → ⊥)
     → apart ≡ begins_apart (take (length text - (n + lexeme_len x)) (drop (n + lexeme_len x) text))
-    → (if apart then Word (n + lexeme_len x) else Bad (n + lexeme_len x) NoSeparator (n + lexeme_len x)) ≡ valued n (drop n text) (quoted_from 1 false (drop (n + 1) text))
+    → (if apart then Word (n + lexeme_len x) else Bad (n + lexeme_len x) NoSeparator (n + lexeme_len x)) ≡ valued n (drop n text)
+    (quoted_from 1 false (drop (n + 1) text))
 valued_at text n x apart is fine apart_is =
     let same : apart ≡ begins_apart (drop (lexeme_len x) (drop n text)) =
     apart_is ∙ ap begins_apart (rest_is text (n + lexeme_len x)) ∙ ap begins_apart (sym (drop-drop (lexeme_len x) n text)) in
@@ -206,7 +211,8 @@ unfolding quoted_from
 quoted_bounds [] n taken h = bad_bounds n (n + 0) n UnclosedQuote 0 (omega arith) (omega arith) (omega arith)
 quoted_bounds (c ∷ text) n taken h =
     let most = n + suc (length text) in
-    let next : (more : Bool) → HasBounds n most (quoted_from (n + 1) more text) = λ more. read_one n (length text) _ (quoted_bounds text (n + 1) more (omega arith)) in
+    let next : (more : Bool) → HasBounds n most (quoted_from (n + 1) more text) = λ more. read_one n (length text) _ (quoted_bounds text
+    (n + 1) more (omega arith)) in
     chosen (c == 10) (λ _. bad_bounds n most n UnclosedQuote 0 (omega arith) (omega arith) (omega arith))
     (λ _. chosen taken (λ _. next false)
     (λ _. chosen (c == 34) (λ _. quoted_is n most (n + 1) (omega arith) (omega arith) (omega arith))
@@ -231,7 +237,8 @@ unfolding word_from
 word_bounds [] n taken equals = word_is n (n + 0) n (omega arith) (omega arith)
 word_bounds (c ∷ text) n taken equals =
     let most = n + suc (length text) in
-    let next : (more : Bool) (e : Option ℕ) → HasBounds n most (word_from (n + 1) more e text) = λ more e. read_one n (length text) _ (word_bounds text (n + 1) more e) in
+    let next : (more : Bool) (e : Option ℕ) → HasBounds n most (word_from (n + 1) more e text) = λ more e. read_one n (length text) _
+    (word_bounds text (n + 1) more e) in
     let quoted : HasBounds 1 (suc (length text)) (quoted_from 1 false text) =
     (let q = quoted_bounds text 1 false (omega arith) in record { low = q.low; high = omega (arith, q.high); inner = q.inner }) in
     chosen taken (λ _. next false equals)
@@ -273,10 +280,12 @@ pub lexeme_bounds : (c : ℕ) (text : Octets) → HasBounds 1 (suc (length text)
 unfolding lexeme_at
 lexeme_bounds c text =
     let most = suc (length text) in
-    let one : (x : Lexeme) → lexeme_len x ≡ 1 → inner_len x ≡ 0 → HasBounds 1 most x = λ x l p. record { low = omega arith; high = omega arith; inner = omega arith } in
+    let one : (x : Lexeme) → lexeme_len x ≡ 1 → inner_len x ≡ 0
+    → HasBounds 1 most x = λ x l p. record { low = omega arith; high = omega arith; inner = omega arith } in
     let run : (p : ℕ → Bool) → p c ≡ true → HasBounds 1 most (Gap (prefix_len p (c ∷ text))) =
     λ p h. gap_is 1 most (prefix_len p (c ∷ text)) (run_bounds p c text h).0 (run_bounds p c text h).1 in
-    let quoted : HasBounds 1 most (quoted_from 1 false text) = (let q = quoted_bounds text 1 false (omega arith) in record { low = q.low; high = omega (arith, q.high); inner = q.inner }) in
+    let quoted : HasBounds 1 most (quoted_from 1 false text) = (let q = quoted_bounds text 1 false
+    (omega arith) in record { low = q.low; high = omega (arith, q.high); inner = q.inner }) in
     chosen (is_blank c) (λ h. run is_blank h)
     (λ blank. chosen (c == 10) (λ _. one LineEnd refl refl)
     (λ line. chosen (c == 59) (λ h. run is_comment (comment_begins c h))

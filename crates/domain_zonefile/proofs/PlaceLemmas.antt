@@ -55,7 +55,8 @@ place_on file m n h =
 -- a place behind the file is its end
 pub place_end : (file : Octets) (at : ℕ) → place_in file (min at (length file)) ≡ place_in file at
 unfolding place_in
-place_end file at = ap (place_behind (record { line = 1; column = 1 })) (let e : take (min at (length file)) file ≡ take at file = grind (arith, common_steps) in e)
+place_end file at = ap (place_behind (record { line = 1; column = 1 })) (let e : take (min at (length file)) file ≡ take at file = grind
+    (arith, common_steps) in e)
 
 pub seen_start : (file : Octets) → IsSeen file (record { at = 0; place = record { line = 1; column = 1 } })
 seen_start file = record { within = omega arith; is = place_start file }

@@ -35,5 +35,6 @@ none_is_empty [] places h = refl
 none_is_empty (t ∷ tokens) [] h = grind (arith, common_steps)
 none_is_empty (t ∷ tokens) (p ∷ places) h = grind (arith, common_steps)
 
-pub pieces_empty : (tokens : Vec Token Global) (places : List ℕ) → length tokens.items ≡ length places → (vec_len tokens == 0) ≡ is_empty (pieces_of tokens.items places)
+pub pieces_empty : (tokens : Vec Token Global) (places : List ℕ) → length tokens.items ≡ length places
+    → (vec_len tokens == 0) ≡ is_empty (pieces_of tokens.items places)
 pieces_empty tokens places h = let len : vec_len tokens ≡ length tokens.items = search rules in rw len (none_is_empty tokens.items places h)

@@ -1,6 +1,7 @@
 -- The entries of a zone file: its lexemes, cut at the line ends outside of brackets (RFC 1035,
 -- section 5.1). An entry is a list of tokens, or has a fault.
-use Rattle.std.specs.Prelude.{◌≡◌, ℕ, zero, suc, ◌+◌, ◌-◌, Bool, true, false, List, [], ◌∷◌, ◌++◌, length, take, drop, Option, Some, None, if◌then◌else◌, nat_le, min, max}
+use Rattle.std.specs.Prelude.{◌≡◌, ℕ, zero, suc, ◌+◌, ◌-◌, Bool, true, false, List, [], ◌∷◌, ◌++◌, length, take, drop, Option, Some, None}
+use Rattle.std.specs.Prelude.{if◌then◌else◌, nat_le, min, max}
 use Rattle.std.specs.List.{prefix_len}
 use Rattle.domain_octets.specs.Octets.{Octets}
 use Rattle.domain_zonefile.specs.Lexemes.{is_blank, is_comment, lexeme_at, lexeme_len}

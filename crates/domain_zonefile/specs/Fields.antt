@@ -3,7 +3,7 @@
 use Rattle.std.specs.Prelude.{ℕ, List, [], ◌∷◌, Option, Some, None, Result, Ok, Err, if◌then◌else◌, drop}
 use Rattle.domain_zonefile.specs.{Ttls.ttl_text, ZoneClasses.class_of, Tokens.TokenView}
 use Rattle.domain_zonefile.specs.declared.ttl.TtlText.{TtlText, TheVariants.{NoTtl, TooLarge, Seconds}}
-use Rattle.domain_zonefile.specs.declared.fields.{Prefix.Prefix, LargeTtl.{LargeTtl, TheVariants.{LargeTtl}}}
+use Rattle.domain_zonefile.specs.declared.fields.{Prefix.Prefix, LargeTtl.LargeTtl}
 
 -- a token as a TTL: only an unquoted one is
 abbrev pub ttl_field : TokenView → TtlText

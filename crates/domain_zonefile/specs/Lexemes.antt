@@ -92,7 +92,8 @@ abbrev pub quoted_step : ℕ → Octets → ℕ
 quoted_step c text = if (c == backslash && is_escape text) then 2 else 1
 
 -- the first of two faults; the second is at this place
-abbrev pub first_fault : Option (SyntaxError × ℕ) → Option SyntaxError → ℕ → Option (SyntaxError × ℕ)
+abbrev pub first_fault : Option (SyntaxError × ℕ) → Option SyntaxError → ℕ
+    → Option (SyntaxError × ℕ)
 first_fault None None at = None
 first_fault None (Some error) at = Some (error, at)
 first_fault (Some fault) here at = Some fault

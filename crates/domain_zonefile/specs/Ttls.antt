@@ -26,7 +26,11 @@ added total (Some number) (Some unit) =
 abbrev pub next_sum : Sum → ℕ → Option Sum
 next_sum sum c =
     if is_ascii_digit c
-    then Some (record { total = sum.total; number = Some (unwrap_or sum.number 0 * 10 + (c - digit_zero)) })
+    then Some (record {
+      total = sum.total;
+      number = Some (unwrap_or sum.number 0 * 10 +
+          (c - digit_zero));
+    })
     else added sum.total sum.number (unit_seconds c)
 
 -- the seconds at the end: a number without a unit stands alone

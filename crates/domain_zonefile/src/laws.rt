@@ -15,6 +15,8 @@ pub fn tokens_are_of_their_file()
 /// fault twice.
 #[tactic(auto, using(crate::proofs::EntryLemmas::next_past))]
 pub fn reading_goes_on()
-    ensures onward { (file : Octets) (start : ℕ) → start < length file → start < next_at file start }
-    ensures within { (file : Octets) (start : ℕ) → start < length file → next_at file start ≤ length file }
+    ensures onward { (file : Octets) (start : ℕ) → start < length file
+        → start < next_at file start }
+    ensures within { (file : Octets) (start : ℕ) → start < length file
+        → next_at file start ≤ length file }
 {}

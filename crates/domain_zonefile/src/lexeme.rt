@@ -37,7 +37,8 @@ fn is_separator(octet: u8) -> bool
 /// Returns whether an octet only continues an unquoted token: it is no separator, no quote, no
 /// backslash and no equals sign.
 fn is_ordinary(octet: u8) -> bool
-    ensures { IsTrue result → (is_separator octet ≡ false) × (octet ≢ 34) × (octet ≢ 92) × (octet ≢ 61) }
+    ensures { IsTrue result → (is_separator octet ≡ false) × (octet ≢ 34) × (octet ≢ 92)
+        × (octet ≢ 61) }
 {
     octet > b'=' && octet != b'\\' || octet > b')' && octet < b';'
 }
@@ -219,7 +220,8 @@ fn begins_at_line_end(text: &[u8]) -> bool
 #[tactic(auto, using(std::proofs::lemmas::Grind::common_steps))]
 fn valued(text: &[u8], len: usize) -> Lexeme
     requires { len < length text.now }
-    ensures { result ≡ valued len (drop len text.now) (quoted_from 1 false (drop (len + 1) text.now)) }
+    ensures { result ≡ valued len (drop len text.now)
+        (quoted_from 1 false (drop (len + 1) text.now)) }
 {
     let value = quoted(&text[len..]);
     if let Lexeme::Bad(more, error, at) = value {

@@ -5,11 +5,13 @@ use Rattle.domain_zonefile.proofs.entry.resume.Goals as goal
 
 pub returns-then-ends_entry : goal.returns-then-ends_entry
 returns-then-ends_entry c =
-    ap (resume c.args.file.now (Some c.args.fault)) (skip_line c.args.file.now c.skipped.at c.skipped.brackets _ _ c.skipped.invariant c.skipped-test.true c.lexeme_at-lexeme.ensures.value c.if-ends_entry.ensures)
+    ap (resume c.args.file.now (Some c.args.fault)) (skip_line c.args.file.now c.skipped.at c.skipped.brackets _ _ c.skipped.invariant
+    c.skipped-test.true c.lexeme_at-lexeme.ensures.value c.if-ends_entry.ensures)
 
 pub skipped-preserved : goal.skipped-preserved
 skipped-preserved c =
-    skip_more c.args.file.now c.skipped.at c.skipped.brackets _ _ _ _ c.skipped.invariant c.skipped-test.true c.lexeme_at-lexeme.ensures.value c.if-ends_entry.ensures c.in_ok-pass.ensures c.len_of-at.ensures
+    skip_more c.args.file.now c.skipped.at c.skipped.brackets _ _ _ _ c.skipped.invariant c.skipped-test.true c.lexeme_at-lexeme.ensures.value
+    c.if-ends_entry.ensures c.in_ok-pass.ensures c.len_of-at.ensures
 
 pub returns-in-Some : goal.returns-in-Some
 returns-in-Some c =

@@ -9,10 +9,12 @@ returns-in-Bad c =
 
 pub returns-then-begins_apart : goal.returns-then-begins_apart
 returns-then-begins_apart c =
-    let h = valued_at c.args.text.now c.args.len _ _ c.quoted-value.ensures.value c.in_default.not-Bad (rw c.len_of-more.ensures at c.if-begins_apart.ensures) in
+    let h = valued_at c.args.text.now c.args.len _ _ c.quoted-value.ensures.value c.in_default.not-Bad (rw c.len_of-more.ensures at
+    c.if-begins_apart.ensures) in
     rw c.len_of-more.ensures h
 
 pub returns : goal.returns
 returns c =
-    let h = valued_at c.args.text.now c.args.len _ _ c.quoted-value.ensures.value c.in_default.not-Bad (rw c.len_of-more.ensures at c.if-begins_apart.ensures) in
+    let h = valued_at c.args.text.now c.args.len _ _ c.quoted-value.ensures.value c.in_default.not-Bad (rw c.len_of-more.ensures at
+    c.if-begins_apart.ensures) in
     rw c.len_of-more.ensures h

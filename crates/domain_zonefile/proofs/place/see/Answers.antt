@@ -14,10 +14,12 @@ place_behind-place-requires c =
 pub returns-clause-known : goal.returns-clause-known
 returns-clause-known c = record {
   within = omega (arith, c.min-at.ensures);
-  is = see_on c.args.file.now c.known_before-before.result c.min-at.result _ c.known_before-before.ensures.known c.known_before-before.ensures.before c.place_behind-place.ensures;
+  is = see_on c.args.file.now c.known_before-before.result c.min-at.result _ c.known_before-before.ensures.known
+      c.known_before-before.ensures.before c.place_behind-place.ensures;
 }
 
 pub returns-clause-place : goal.returns-clause-place
 returns-clause-place c =
-    see_on c.args.file.now c.known_before-before.result c.min-at.result _ c.known_before-before.ensures.known c.known_before-before.ensures.before c.place_behind-place.ensures
+    see_on c.args.file.now c.known_before-before.result c.min-at.result _ c.known_before-before.ensures.known c.known_before-before.ensures.before
+    c.place_behind-place.ensures
     ∙ ap (place_in c.args.file.now) c.min-at.ensures ∙ place_end c.args.file.now c.args.at

@@ -9,8 +9,11 @@ invariant_of-self-in-Faulty c =
 
 pub returns-in-Faulty-clause-found : goal.returns-in-Faulty-clause-found
 returns-in-Faulty-clause-found c =
-    let is = rw c.in-Faulty.is at c.in_ok-fault.ensures in
-    (sym c.lines.invariant.left ∙ found_fault c.lines.self-inside.file.now c.lines.self-inside.next c.in-Faulty.fault c.in-Faulty.next [] c.lines-test.true is, c.clear.ensures)
+    let is = rw c.in-Faulty.is at c.in_ok-fault.ensures in (
+      sym c.lines.invariant.left ∙ found_fault c.lines.self-inside.file.now c.lines.self-inside.next c.in-Faulty.fault c.in-Faulty.next []
+          c.lines-test.true is,
+      c.clear.ensures,
+    )
 
 pub invariant_of-self-then-not-is_empty : goal.invariant_of-self-then-not-is_empty
 invariant_of-self-then-not-is_empty c =
@@ -21,7 +24,8 @@ pub returns-then-not-is_empty-clause-found : goal.returns-then-not-is_empty-clau
 returns-then-not-is_empty-clause-found c =
     let is = rw c.in-Entry.is at c.in_ok-fault.ensures in
     sym c.lines.invariant.left
-    ∙ found_entry c.lines.self-inside.file.now c.lines.self-inside.next c.in-Entry.next _ _ c.lines-test.true is c.if-not-is_empty.ensures c.begins_blank.ensures
+    ∙ found_entry c.lines.self-inside.file.now c.lines.self-inside.next c.in-Entry.next _ _ c.lines-test.true is c.if-not-is_empty.ensures
+    c.begins_blank.ensures
 
 pub lines-smaller : goal.lines-smaller
 lines-smaller c =
