@@ -1,0 +1,7 @@
+use Rattle.std.{proofs.Common.{◌≡◌, ◌+◌, drop}, specs.List.prefix_len}
+use Rattle.domain_zonefile.specs.Lexemes.{is_comment}
+use Rattle.domain_zonefile.proofs.lexeme.comment_len.Given as goal
+
+-- the octets so far pass
+abbrev pub invariant-loop-i : goal.invariant-loop-i
+invariant-loop-i l = prefix_len is_comment l.text ≡ l.i + prefix_len is_comment (drop l.i l.text)
