@@ -3,7 +3,8 @@ use Rattle.std.proofs.Common.{arith, rules, ℕ, ◌≡◌, ◌∷◌, ◌++◌,
 use Rattle.std.proofs.{lemmas.Grind.common_steps}
 use Rattle.std.specs.Prelude.{Result, Ok, Err, is_ok, is_err, ◌==◌, vec_len}
 use Rattle.std.specs.declared.{vec.Vec.Vec, alloc.Global.Global}
-use Rattle.domain_zonefile.specs.{Entries.Piece, Tokens.{pieces_of, token_view, piece_view, is_empty}, declared.token.Token.Token}
+use Rattle.domain_types.specs.declared.token.Token.{Token}
+use Rattle.domain_zonefile.specs.{Entries.Piece, Tokens.{pieces_of, token_view, piece_view, is_empty}}
 
 pub pieces_push : (tokens : List Token) (places : List ℕ) (token : Token) (place : ℕ) → length tokens ≡ length places
     → pieces_of (tokens ++ token ∷ []) (places ++ place ∷ [])

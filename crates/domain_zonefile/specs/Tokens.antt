@@ -1,7 +1,8 @@
 -- How the code keeps the tokens of an entry.
 use Rattle.std.specs.Prelude.{ℕ, Bool, true, false, List, [], ◌∷◌, Option, None, Some}
 use Rattle.domain_octets.specs.Octets.{Octets}
-use Rattle.domain_zonefile.specs.{Entries.Piece, declared.token.Token.Token}
+use Rattle.domain_types.specs.declared.token.Token.{Token}
+use Rattle.domain_zonefile.specs.{Entries.Piece}
 
 -- tokens with their places
 abbrev pub pieces_of : List Token → List ℕ → List Piece

@@ -25,9 +25,9 @@ mod token;
 mod ttl;
 
 pub use class::read_class;
+pub use domain_types::Token;
 pub use error::{SyntaxError, SyntaxFault};
 pub use fields::{LargeTtl, Prefix, read_prefix};
 pub use place::{Place, has_mark};
 pub use reader::{EntryReader, Found};
-pub use token::Token;
 pub use ttl::{TtlText, read_ttl};

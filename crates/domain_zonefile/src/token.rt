@@ -4,17 +4,9 @@ ghost use Rattle.domain_zonefile.specs.Tokens.{innermost, token_view, piece_view
 ghost use Rattle.domain_zonefile.specs.Entries.{is_outside};
 
 use domain_octets::OutOfMemory;
+use domain_types::Token;
 use std::alloc::Global;
 use std::marker::Model;
-
-/// A token of an entry (RFC 1035, section 5.1).
-#[derive(Clone, Copy, Debug)]
-pub struct Token<'a> {
-    /// Its octets, without the quotes around them. Escapes stay as they are.
-    pub octets: &'a [u8],
-    /// Whether quotes were around it.
-    pub is_quoted: bool,
-}
 
 /// The tokens of an entry, in order, with their places. Contracts see a list of pieces.
 #[derive(Drop)]

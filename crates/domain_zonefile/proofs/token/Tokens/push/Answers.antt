@@ -1,6 +1,7 @@
 use Rattle.std.proofs.Common.{ap, ◌∙◌, ◌++◌, ◌∷◌, []}
 use Rattle.std.specs.Prelude.{if◌then◌else◌}
-use Rattle.domain_zonefile.specs.{Tokens.pieces_of, declared.token.Token.Token}
+use Rattle.domain_types.specs.declared.token.Token.{Token}
+use Rattle.domain_zonefile.specs.Tokens.{pieces_of}
 use Rattle.domain_zonefile.proofs.TokenLemmas.{pieces_push, is_ok_there}
 use Rattle.domain_zonefile.proofs.token.Tokens.push.Goals as goal
 
