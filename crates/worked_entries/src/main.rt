@@ -7,7 +7,7 @@ mod data;
 
 use domain_octets::OutOfMemory;
 use domain_types::{mnemonic, rtype_of};
-use domain_zonefile::{EntryReader, Found, Prefix, Token, read_prefix};
+use domain_zonefile::{EntryReader, Found, Place, Prefix, SyntaxFault, Token, read_prefix};
 use std::alloc::Global;
 use std::fmt::Write;
 use std::io;
@@ -66,25 +66,58 @@ fn show_entry(
     }
 }
 
+/// Appends a place and a colon.
+fn show_place(text: &mut String, place: Place) -> Result<(), OutOfMemory> {
+    write!(text, "{}:{}:", place.line, place.column)?;
+    Ok(())
+}
+
+/// Appends the entry that was read last.
+fn show_read(
+    alloc: Global,
+    text: &mut String,
+    reader: &mut EntryReader<'_>,
+    is_indented: bool,
+) -> Result<(), OutOfMemory> {
+    let at = reader.places().first().copied().unwrap_or(0);
+    show_place(text, reader.place_of(at))?;
+    show_entry(alloc, text, is_indented, reader.tokens())
+}
+
+/// Appends a fault with its place.
+fn show_fault(
+    text: &mut String,
+    reader: &mut EntryReader<'_>,
+    fault: SyntaxFault,
+) -> Result<(), OutOfMemory> {
+    show_place(text, reader.place_of(fault.at))?;
+    write!(text, " {}", fault.error)?;
+    Ok(())
+}
+
+/// Appends a line for what was found.
+fn show_found(
+    alloc: Global,
+    text: &mut String,
+    reader: &mut EntryReader<'_>,
+    found: Found,
+) -> Result<(), OutOfMemory> {
+    match found {
+        Found::Entry(is_indented) => show_read(alloc, text, reader, is_indented)?,
+        Found::Fault(fault) => show_fault(text, reader, fault)?,
+    }
+    Ok(text.push_str("\n")?)
+}
+
 /// Returns what is read from a zone file, one line for each entry and each fault.
 fn report(alloc: Global, file: &[u8]) -> Result<String, OutOfMemory> {
     let mut text = String::new(alloc);
     let mut reader = EntryReader::new(alloc, file);
-    'entries: for _ in 0..=file.len() {
-        match reader.next_entry()? {
-            Some(Found::Entry(is_indented)) => {
-                let at = reader.places().first().copied().unwrap_or(0);
-                let place = reader.place_of(at);
-                write!(text, "{}:{}:", place.line, place.column)?;
-                show_entry(alloc, &mut text, is_indented, reader.tokens())?;
-            }
-            Some(Found::Fault(fault)) => {
-                let place = reader.place_of(fault.at);
-                write!(text, "{}:{}: {}", place.line, place.column, fault.error)?;
-            }
-            None => break 'entries,
-        }
-        text.push_str("\n")?;
+    for _ in 0..=file.len() {
+        let Some(found) = reader.next_entry()? else {
+            break;
+        };
+        show_found(alloc, &mut text, &mut reader, found)?;
     }
     Ok(text)
 }
