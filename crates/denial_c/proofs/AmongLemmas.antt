@@ -2,15 +2,15 @@
 use Rattle.std.proofs.Common.{◌≡◌, ℕ, ◌≤◌, Bool, true, false, cond, List, [], ◌∷◌, ◌++◌, map, length, refl, sym, ap, ◌∙◌, subst, arith, append_assoc}
 use Rattle.std.proofs.{Common.{append-nil, ◌<◌, Option, Result, IfOk, IfErr, zero, suc, ◌*◌, Ok, ◌⊎◌, Err, inl, inr}, lemmas.Grind.common_steps}
 use Rattle.std.{proofs.lemmas.List.{map-append, Elements.filter-append}, specs.{Prelude.filter, List.{AllByRecursion, flat_map}}}
-use Rattle.domain_borrowed.{specs.Data.{RawRecord, zone_of_raw, record_octets, IsRecord}, proofs.DataLemmas.{same_record, some_octets}}
+use Rattle.domain_borrowed.{specs.Data.{RawRecord, zone_of_raw, raw_record_octets, IsRecord}, proofs.DataLemmas.{same_record, some_octets}}
 use Rattle.domain_zone.{proofs.{PairLemmas.{from_map, in_filtered, in_middle, In, all_in}, WalkLemmas.{all_both, all_front, weaker}}, specs.Zone.ZoneRecord}
-use Rattle.denial_c.specs.Result.{AreAmong, AreNsecs, IsReadFault, Spells, first_parameters, is_known, told_or_fault, AreAsked, HashedQuestion}
-use Rattle.denial_c.specs.{Result.{IsHashedResult, Source, IsSpelled, IsNsecAnswer}, Chains.{AreGiven, BeginsNone, IsOfClass, AreSorted, IsChainFault}}
-use Rattle.denial_c.specs.Chains.{IsChainResult, IsFit, IsSortedFault, IsWritten, Making, hashing_fault, nsec3_making, HasFirstPair}
+use Rattle.denial_c.specs.Result.{EncodeKept, EncodeNsecs, IsReadFault, EncodesName, first_parameters, is_known, told_or_fault, AreAsked, HashedQuestion}
+use Rattle.denial_c.specs.{Result.{IsHashedResult, Source, IsSpelled, IsNsecAnswer}, Chains.{EncodeRecords, BeginsNone, IsOfClass, AreSorted, IsChainFault}}
+use Rattle.denial_c.specs.Chains.{IsChainResult, IsFit, IsSortedFault, IsWrittenToBuffer, Making, hashing_fault, nsec3_making, HasFirstPair}
 use Rattle.denial_c.specs.declared.fault.Fault.{Fault, TheVariants.ShortBuffer}
 use Rattle.domain_alike.specs.Alike.{IsFirstPair, Pair}
 use Rattle.domain_names.specs.Name.{Name, lowered, wire_of}
-use Rattle.domain_nsec3.specs.{Chain.{ChainConfig, Parameters, hash_of, IsFirstHashFault, IsFirstFault, HashedLink}, View.hash_by}
+use Rattle.domain_nsec3.specs.{Chain.{ChainConfig, Parameters, hash_of, IsFirstHashFault, IsFirstHashedFault, HashedLink}, View.hash_by}
 use Rattle.domain_nsec3.specs.declared.config.Nsec3ParamTtlMode.{Nsec3ParamTtlMode}
 use Rattle.sha1.specs.Sha1.{digest_bytes, sha1}
 use Rattle.domain_hasher.specs.declared.error.Nsec3HashError.{Nsec3HashError, TheVariants.{Hasher, AppendError, OwnerHashError, Nsec3NameTooLong}}
@@ -25,26 +25,26 @@ use Rattle.domain_hasher.specs.declared.error.Nsec3HashError.TheVariants as hash
 
 -- the octets are these records, each of which is such, and what is left
 pub record IsPast (IsSuch : RawRecord → Type 0) (octets left : List ℕ) (before : List RawRecord) : Type 0 where
-  pub are : octets ≡ flat_map record_octets before ++ left
+  pub are : octets ≡ flat_map raw_record_octets before ++ left
   pub whole : AllByRecursion IsSuch before
 
 pub past_more : (IsSuch : RawRecord → Type 0) (octets left after : List ℕ) (before : List RawRecord) (r : RawRecord)
-    → IsPast IsSuch octets left before → left ≡ record_octets r ++ after → IsSuch r → IsPast IsSuch octets after (before ++ r ∷ [])
+    → IsPast IsSuch octets left before → left ≡ raw_record_octets r ++ after → IsSuch r → IsPast IsSuch octets after (before ++ r ∷ [])
 past_more IsSuch octets left after before r s begins is = grind (arith, common_steps, (all_both IsSuch before (r ∷ [])))
 
 -- all records have those before in front, and are what is left behind them
 pub record HasRest (left : List ℕ) (before all : List RawRecord) : Type 0 where
   pub rest : List RawRecord
   pub all_are : all ≡ before ++ rest
-  pub left_is : left ≡ flat_map record_octets rest
+  pub left_is : left ≡ flat_map raw_record_octets rest
   pub whole : AllByRecursion IsRecord rest
 
 pub rest_of : (before all : List RawRecord) (left : List ℕ) → AllByRecursion IsRecord before → AllByRecursion IsRecord all
-    → flat_map record_octets before ++ left ≡ flat_map record_octets all → HasRest left before all
+    → flat_map raw_record_octets before ++ left ≡ flat_map raw_record_octets all → HasRest left before all
 rest_of [] all left h k e = record { rest = all; all_are = refl; left_is = e; whole = k }
-rest_of (q ∷ qs) [] left h k e = absurd (some_octets q _ (sym (append_assoc (record_octets q) _ left) ∙ e))
+rest_of (q ∷ qs) [] left h k e = absurd (some_octets q _ (sym (append_assoc (raw_record_octets q) _ left) ∙ e))
 rest_of (q ∷ qs) (r ∷ rs) left h k e =
-    let one = same_record q r _ _ h.0 k.0 (sym (append_assoc (record_octets q) _ left) ∙ e) in
+    let one = same_record q r _ _ h.0 k.0 (sym (append_assoc (raw_record_octets q) _ left) ∙ e) in
     let more = rest_of qs rs left h.1 k.1 one.after in
     record {
       rest = more.rest;
@@ -62,16 +62,16 @@ no_octets (octet ∷ octets) few = absurd (omega arith)
 pub no_end : (left : List ℕ) (before all : List RawRecord) → HasRest left before all → BeginsNone left → ⊥
 no_end left before all s n = next s.rest s.left_is s.whole
   where
-    next : (rest : List RawRecord) → left ≡ flat_map record_octets rest → AllByRecursion IsRecord rest → ⊥
+    next : (rest : List RawRecord) → left ≡ flat_map raw_record_octets rest → AllByRecursion IsRecord rest → ⊥
     next [] e h = n.some e
-    next (r ∷ rs) e h = n.none r (flat_map record_octets rs) h.0 e
+    next (r ∷ rs) e h = n.none r (flat_map raw_record_octets rs) h.0 e
 
 -- which is one of them
-pub next_in : (left after : List ℕ) (before all : List RawRecord) (q : RawRecord) → HasRest left before all → left ≡ record_octets q ++ after → IsRecord q
+pub next_in : (left after : List ℕ) (before all : List RawRecord) (q : RawRecord) → HasRest left before all → left ≡ raw_record_octets q ++ after → IsRecord q
     → In q all
 next_in left after before all q s begins fits = subst (In q) (sym s.all_are) (here s.rest (sym begins ∙ s.left_is) s.whole)
   where
-    here : (rest : List RawRecord) → record_octets q ++ after ≡ flat_map record_octets rest → AllByRecursion IsRecord rest → In q (before ++ rest)
+    here : (rest : List RawRecord) → raw_record_octets q ++ after ≡ flat_map raw_record_octets rest → AllByRecursion IsRecord rest → In q (before ++ rest)
     here [] e h = absurd (some_octets q after e)
     here (r ∷ rs) e h = subst (λ p. In q (before ++ p ∷ rs)) (same_record q r after _ fits h.0 e).records (in_middle before q rs)
 
@@ -79,7 +79,7 @@ next_in left after before all q s begins fits = subst (In q) (sym s.all_are) (he
 pub all_read : (left : List ℕ) (before all : List RawRecord) → HasRest left before all → left ≡ [] → before ≡ all
 all_read left before all s none = sym (s.all_are ∙ ap (λ rs. before ++ rs) (ended s.rest (sym s.left_is ∙ none)) ∙ append-nil before)
   where
-    ended : (rest : List RawRecord) → flat_map record_octets rest ≡ [] → rest ≡ []
+    ended : (rest : List RawRecord) → flat_map raw_record_octets rest ≡ [] → rest ≡ []
     ended [] e = refl
     ended (r ∷ rs) e = absurd (some_octets r _ e)
 
@@ -93,7 +93,7 @@ module _ {K : Type 0} (is_kept : RawRecord → Bool) (raw : K → RawRecord) (Is
     pub those : filter is_kept before ≡ map raw kept
     pub fit : AllByRecursion IsKept kept
 
-  pub passed : (octets left after : List ℕ) (kept : List K) (r : RawRecord) → IsRead octets left kept → left ≡ record_octets r ++ after → IsRecord r
+  pub passed : (octets left after : List ℕ) (kept : List K) (r : RawRecord) → IsRead octets left kept → left ≡ raw_record_octets r ++ after → IsRecord r
       → is_kept r ≡ false → IsRead octets after kept
   passed octets left after kept r s begins fits off = record {
     before = s.before ++ r ∷ [];
@@ -102,7 +102,7 @@ module _ {K : Type 0} (is_kept : RawRecord → Bool) (raw : K → RawRecord) (Is
     fit = s.fit;
   }
 
-  pub taken : (octets left after : List ℕ) (kept : List K) (r : RawRecord) (k : K) → IsRead octets left kept → left ≡ record_octets r ++ after → IsRecord r
+  pub taken : (octets left after : List ℕ) (kept : List K) (r : RawRecord) (k : K) → IsRead octets left kept → left ≡ raw_record_octets r ++ after → IsRecord r
       → is_kept r ≡ true → r ≡ raw k → IsKept k → IsRead octets after (kept ++ k ∷ [])
   taken octets left after kept r k s begins fits on is fit = record {
     before = s.before ++ r ∷ [];
@@ -112,7 +112,7 @@ module _ {K : Type 0} (is_kept : RawRecord → Bool) (raw : K → RawRecord) (Is
   }
 
   -- whatever others are so that the octets are records
-  module _ (octets left : List ℕ) (kept others : List K) (s : IsRead octets left kept) (m : AreAmong is_kept raw IsKept octets others) where
+  module _ (octets left : List ℕ) (kept others : List K) (s : IsRead octets left kept) (m : EncodeKept is_kept raw IsKept octets others) where
     ahead : HasRest left s.before m.records
     ahead = rest_of s.before m.records left s.past.whole m.whole (sym s.past.are ∙ m.are)
 
@@ -120,7 +120,7 @@ module _ {K : Type 0} (is_kept : RawRecord → Bool) (raw : K → RawRecord) (Is
     refused none = no_end left s.before m.records ahead none
 
     -- what is left begins with a record that is to be kept, and can't be
-    pub refused_data : (after : List ℕ) (q : RawRecord) → left ≡ record_octets q ++ after → IsRecord q → is_kept q ≡ true
+    pub refused_data : (after : List ℕ) (q : RawRecord) → left ≡ raw_record_octets q ++ after → IsRecord q → is_kept q ≡ true
         → ((k : K) → q ≡ raw k → IsKept k → ⊥) → ⊥
     refused_data after q begins fits on none =
         grind (
@@ -134,17 +134,18 @@ module _ {K : Type 0} (is_kept : RawRecord → Bool) (raw : K → RawRecord) (Is
 
 -- ---- records of a class
 
-module _ {class : ℕ} {octets left : List ℕ} {given before : List RawRecord} (g : AreGiven class octets given) (p : IsPast IsRecord octets left before) where
-  -- those that were read are the first of them
-  pub rest_given : HasRest left before given
-  rest_given = rest_of before given left p.whole (weaker _ _ (λ r h. h.0) given g.whole) (sym p.are ∙ g.are)
+module _ {class : ℕ} {octets left : List ℕ} {given before : List RawRecord} (g : EncodeRecords class octets given) (p : IsPast IsRecord octets left before)
+  where
+    -- those that were read are the first of them
+    pub rest_given : HasRest left before given
+    rest_given = rest_of before given left p.whole (weaker _ _ (λ r h. h.0) given g.whole) (sym p.are ∙ g.are)
 
-  pub before_of_class : AllByRecursion (IsOfClass class) before
-  before_of_class = (all_front (IsOfClass class) before rest_given.rest (subst (AllByRecursion (IsOfClass class)) rest_given.all_are g.whole)).0
+    pub before_of_class : AllByRecursion (IsOfClass class) before
+    before_of_class = (all_front (IsOfClass class) before rest_given.rest (subst (AllByRecursion (IsOfClass class)) rest_given.all_are g.whole)).0
 
 -- ---- What is answered of sorted records of a class, where the octets are an apex and these records.
 
-module _ {apex : List ℕ} {class number : ℕ} {records : List ℕ} {a : Name} {listed sorted : List RawRecord} (spells : Spells apex a)
+module _ {apex : List ℕ} {class number : ℕ} {records : List ℕ} {a : Name} {listed sorted : List RawRecord} (spells : EncodesName apex a)
     (of_class : number ≡ class) (as_listed : listed ≡ sorted) (are : AreSorted number records sorted) where
   pub chain_fault : (making : Making) (old : List ℕ) (e : Fault) → IsFit making → IsSortedFault making number records a listed e
       → IsChainFault making apex class records old e
@@ -152,7 +153,7 @@ module _ {apex : List ℕ} {class number : ℕ} {records : List ℕ} {a : Name} 
 
   -- octets that are a chain, written or not
   pub chain_result : (making : Making) (written shown old new : List ℕ) → IsFit making → making.is_chain a listed written → shown ≡ written
-      → (r : Result ℕ Fault) → IfOk r (IsWritten shown old new)
+      → (r : Result ℕ Fault) → IfOk r (IsWrittenToBuffer shown old new)
       → IfErr r (λ e. (e ≡ ShortBuffer (length shown)) × (length old < length shown) × (new ≡ old)) → IsChainResult making apex class records r old new
   chain_result making written shown old new fit is as_shown r ok err = grind (arith, common_steps)
 
@@ -184,7 +185,7 @@ module _ (L : List ZoneRecord) (a : Name) (config : ChainConfig) (p : Parameters
 -- so a fault of hashing is one of two
 pub hashing_faulty : (mode : Nsec3ParamTtlMode) (class : ℕ) (octets : List ℕ) (sorted : List RawRecord) (a : Name) (config : ChainConfig) (p : Parameters)
     → config.hash ≡ hash_by sha1_answer p → p.algorithm ≡ 1
-    → (e : Nsec3HashError) → IsFirstFault (zone_of_raw sorted) a config (signing_error.Nsec3HashingError e)
+    → (e : Nsec3HashError) → IsFirstHashedFault (zone_of_raw sorted) a config (signing_error.Nsec3HashingError e)
     → IsSortedFault (nsec3_making mode config) class octets a sorted (hashing_fault e)
 hashing_faulty mode class octets sorted a config p by sha1 (Hasher n) h = grind (arith, common_steps)
 hashing_faulty mode class octets sorted a config p by sha1 AppendError h = absurd h.1
@@ -218,5 +219,5 @@ first_by_sha1 a (k ∷ ks) = grind (arith, common_steps, (first_by_sha1 a ks))
 -- ---- Faults of whole answers.
 
 pub nsecs_fault : (apex name : List ℕ) (t class : ℕ) (octets : List ℕ) → IsSpelled apex → IsSpelled name → (e : Fault)
-    → IsReadFault (AreNsecs class octets) e → IsNsecAnswer apex name t class octets (Err e)
+    → IsReadFault (EncodeNsecs class octets) e → IsNsecAnswer apex name t class octets (Err e)
 nsecs_fault apex name t class octets spells spelled e h = grind (arith, common_steps)

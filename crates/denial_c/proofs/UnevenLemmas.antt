@@ -4,15 +4,15 @@ use Rattle.std.proofs.{Common.{append_assoc, append-nil, length-append, is_some,
 use Rattle.std.{proofs.lemmas.{Bool.not-true, List.Folds.list_any-append}, specs.{Prelude.{Contains, filter}, List.{AllByRecursion, flat_map, list_any}}}
 use Rattle.domain_names.specs.Name.{Name}
 use Rattle.domain_any_order.{specs.{AnyOrder.Sorts, RawRecords.raw_view}, proofs.AmongLemmas.{contains_in, in_contains}}
-use Rattle.domain_borrowed.specs.Data.{minimum_of, RawRecord, zone_of_raw, record_octets, IsRecord}
+use Rattle.domain_borrowed.specs.Data.{raw_minimum, RawRecord, zone_of_raw, raw_record_octets, IsRecord}
 use Rattle.domain_zone.specs.Zone.{OwnerRecords, owner_at, as_zone_record, ZoneRecord, clashes, has_clash, has_unequal_ttls, records_of, IsFirstClash}
 use Rattle.domain_zone.proofs.{GivenLemmas.{all_known, name_of, names_back}, WalkLemmas.{any_two, all_both, any_none, weaker}, PairLemmas.{In, all_in}}
 use Rattle.domain_zone.proofs.PairLemmas.{all_from_in, in_filter, in_filtered, in_map, from_map}
-use Rattle.denial_c.{specs.Chains.{AreGiven, is_in_set, is_other, IsFirstUneven, IsUnevenAt}, proofs.AmongLemmas.{all_read, before_of_class, past_more}}
+use Rattle.denial_c.{specs.Chains.{EncodeRecords, is_in_set, is_other, IsFirstUneven, IsUnevenAt}, proofs.AmongLemmas.{all_read, before_of_class, past_more}}
 use Rattle.denial_c.proofs.AmongLemmas.{rest_given, IsPast}
 
 abbrev pub see : RawRecord → ZoneRecord
-see = as_zone_record (λ n. n) (λ d. d.rtype) minimum_of
+see = as_zone_record (λ n. n) (λ d. d.rtype) raw_minimum
 
 -- ---- owners
 
@@ -103,13 +103,13 @@ not_other first w u same is = ap (λ v. Some v) (sym (eqb-true u w (not-false (n
 
 module _ {octets left : List ℕ} {n : Name} {t : ℕ} {first : Option ℕ} (s : IsScanned octets n t left first) where
   -- all were read, though some of them clash
-  pub scanned_all : {class : ℕ} {given : List RawRecord} → AreGiven class octets given
+  pub scanned_all : {class : ℕ} {given : List RawRecord} → EncodeRecords class octets given
       → has_clash (zone_of_raw (filter (is_in_set n t) given)) ≡ true → left ≡ [] → ⊥
   scanned_all g clash none =
       let read = all_read left s.before _ (rest_given g s.past) none in
       false≢true (sym (even_given _ n t first (subst (AllByRecursion (HasFirst n t first)) read s.same)) ∙ clash)
 
-  module _ (q : RawRecord) (after : List ℕ) (begins : left ≡ record_octets q ++ after) (fits : IsRecord q) where
+  module _ (q : RawRecord) (after : List ℕ) (begins : left ≡ raw_record_octets q ++ after) (fits : IsRecord q) where
     pub scanned_other : is_in_set n t q ≡ false → IsScanned octets n t after first
     scanned_other off = record {
       before = s.before ++ q ∷ [];
@@ -127,20 +127,20 @@ module _ {octets left : List ℕ} {n : Name} {t : ℕ} {first : Option ℕ} (s :
       some = grind (arith, common_steps, list_any-append);
     }
 
-    pub scanned_found : (class : ℕ) {given : List RawRecord} → AreGiven class octets given → (offset : ℕ) → offset ≡ length octets - length left
+    pub scanned_found : (class : ℕ) {given : List RawRecord} → EncodeRecords class octets given → (offset : ℕ) → offset ≡ length octets - length left
         → is_in_set n t q ≡ true → is_other first q.ttl ≡ true → IsUnevenAt class octets n t offset
     scanned_found class g offset at on other = by first refl other
       where
         by : (o : Option ℕ) → first ≡ o → is_other o q.ttl ≡ true → IsUnevenAt class octets n t offset
         by None is other = absurd (false≢true other)
         by (Some w) is other =
-            let long = ap length s.past.are ∙ length-append (flat_map record_octets s.before) left in
+            let long = ap length s.past.are ∙ length-append (flat_map raw_record_octets s.before) left in
             record {
               first = q;
               after = after;
               read = record {
                 before = s.before;
-                are = s.past.are ∙ ap (λ o. flat_map record_octets s.before ++ o) begins;
+                are = s.past.are ∙ ap (λ o. flat_map raw_record_octets s.before ++ o) begins;
                 whole = before_of_class g s.past;
                 far = omega (arith, at, long);
               };

@@ -2,18 +2,18 @@
 use Rattle.std.specs.Prelude.{◌≡◌, ◌≢◌, ℕ, List, [], ◌++◌, length, ◌==◌, ◌&&◌, not, Bool, true, false, ◌∷◌, Option, Some, None, ◌<◌, ◌≤◌}
 use Rattle.std.specs.{Prelude.{drop, Result, Ok, Err, if◌then◌else◌}, List.{AllByRecursion, flat_map, list_any}}
 use Rattle.domain_octets.specs.Octets.{Octets}
-use Rattle.domain_borrowed.specs.Data.{RawRecord, zone_of_raw, record_octets, IsRecord}
+use Rattle.domain_borrowed.specs.Data.{RawRecord, zone_of_raw, raw_record_octets, IsRecord}
 use Rattle.domain_names.specs.Name.{same_name, lowered, wire_of, Name}
 use Rattle.domain_zone.specs.Zone.{ZoneRecord, has_unequal_ttls, records_of, IsFirstClash, covered_names}
 use Rattle.domain_nsec.specs.{Chain.{Link, IsChain, IsFirstFault}, declared.config.GenerateNsecConfig.GenerateNsecConfig}
 use Rattle.domain_nsec3.specs.Chain.{ChainRecords, IsChainParam, IsHashedChain, excludes, ChainConfig, Parameters}
-use Rattle.domain_nsec3.specs.{Chain.IsFirstFault as IsFirstHashedFault, View.hash_by, declared.config.Nsec3ParamTtlMode.Nsec3ParamTtlMode}
+use Rattle.domain_nsec3.specs.{Chain.IsFirstHashedFault, View.hash_by, declared.config.Nsec3ParamTtlMode.Nsec3ParamTtlMode}
 use Rattle.domain_hasher.specs.declared.error.Nsec3HashError.{Nsec3HashError}
 use Rattle.domain_records.specs.Order.{IsInOrder, IsOneClass}
 use Rattle.domain_groups.specs.declared.error.SigningError.{SigningError}
 use Rattle.domain_sha1.specs.Iterated.{sha1_answer}
 use Rattle.domain_dnssec.specs.{AnyOrder.Sorts, RawRecords.raw_view, Wire.{nsecs_octets, nsec3s_octets}}
-use Rattle.denial_c.specs.{Result.{IsSpelled, Spells}, declared.{fault.Fault.Fault, nsec3_chain.Hashing.Hashing}}
+use Rattle.denial_c.specs.{Result.{IsSpelled, EncodesName}, declared.{fault.Fault.Fault, nsec3_chain.Hashing.Hashing}}
 use Rattle.domain_alike.specs.Alike.{IsFirstPair, Pair}
 use Rattle.domain_hasher.specs.declared.error.Nsec3HashError.TheVariants as hash_error
 use Rattle.domain_groups.specs.declared.error.SigningError.TheVariants as signing_error
@@ -27,21 +27,21 @@ abbrev pub IsOfClass : ℕ → RawRecord → Type 0
 IsOfClass class r = IsRecord r × (r.class ≡ class)
 
 -- the octets encode these records of the class, one after another
-pub record AreGiven (class : ℕ) (octets : Octets) (given : List RawRecord) : Type 0 where
-  pub are : octets ≡ flat_map record_octets given
+pub record EncodeRecords (class : ℕ) (octets : Octets) (given : List RawRecord) : Type 0 where
+  pub are : octets ≡ flat_map raw_record_octets given
   pub whole : AllByRecursion (IsOfClass class) given
 
 -- records of the class are before an offset, and these octets from it on
 pub record IsReadUpTo (class : ℕ) (octets : Octets) (offset : ℕ) (left : Octets) : Type 0 where
   pub before : List RawRecord
-  pub are : octets ≡ flat_map record_octets before ++ left
+  pub are : octets ≡ flat_map raw_record_octets before ++ left
   pub whole : AllByRecursion (IsOfClass class) before
-  pub far : offset ≡ length (flat_map record_octets before)
+  pub far : offset ≡ length (flat_map raw_record_octets before)
 
 -- octets, not empty, that begin with no record
 pub record BeginsNone (octets : Octets) : Type 0 where
   pub some : octets ≢ []
-  pub none : (r : RawRecord) (after : Octets) → IsRecord r → octets ≡ record_octets r ++ after → ⊥
+  pub none : (r : RawRecord) (after : Octets) → IsRecord r → octets ≡ raw_record_octets r ++ after → ⊥
 
 -- after records of the class there are octets that begin with no record
 pub record HasNoRecordAt (class : ℕ) (octets : Octets) (offset : ℕ) : Type 0 where
@@ -53,7 +53,7 @@ pub record HasNoRecordAt (class : ℕ) (octets : Octets) (offset : ℕ) : Type 0
 pub record HasOtherClassAt (class : ℕ) (octets : Octets) (offset : ℕ) : Type 0 where
   pub first : RawRecord
   pub after : Octets
-  pub read : IsReadUpTo class octets offset (record_octets first ++ after)
+  pub read : IsReadUpTo class octets offset (raw_record_octets first ++ after)
   pub fits : IsRecord first
   pub other : first.class ≢ class
 
@@ -80,7 +80,7 @@ is_other None ttl = false
 pub record IsUnevenAt (class : ℕ) (octets : Octets) (n : Name) (t : ℕ) (offset : ℕ) : Type 0 where
   pub first : RawRecord
   pub after : Octets
-  pub read : IsReadUpTo class octets offset (record_octets first ++ after)
+  pub read : IsReadUpTo class octets offset (raw_record_octets first ++ after)
   pub fits : IsRecord first
   pub among : is_in_set n t first ≡ true
   pub ttl : ℕ
@@ -94,7 +94,7 @@ pub record IsUnevenAt (class : ℕ) (octets : Octets) (n : Name) (t : ℕ) (offs
 -- these are the records of the class that the octets encode, sorted
 pub record AreSorted (class : ℕ) (octets : Octets) (sorted : List RawRecord) : Type 0 where
   pub given : List RawRecord
-  pub are : AreGiven class octets given
+  pub are : EncodeRecords class octets given
   pub sorts : Sorts raw_view given sorted
   pub one_class : IsOneClass sorted
   pub in_order : IsInOrder (λ n. n) (λ d. d.rtype) sorted
@@ -105,7 +105,7 @@ pub record HasZone (apex : Octets) (class : ℕ) (records : Octets)
     (AreSo : Name → List RawRecord → Type 0) : Type 0 where
   pub a : Name
   pub sorted : List RawRecord
-  pub apex_is : Spells apex a
+  pub apex_is : EncodesName apex a
   pub are : AreSorted class records sorted
   pub so : AreSo a sorted
 
@@ -113,7 +113,7 @@ pub record HasZone (apex : Octets) (class : ℕ) (records : Octets)
 abbrev pub IsGivenFault : ℕ → Octets → Fault → Type 0
 IsGivenFault class octets (fault.NoRecord offset) = HasNoRecordAt class octets offset
 IsGivenFault class octets (fault.Class offset) = HasOtherClassAt class octets offset
-IsGivenFault class octets fault.OutOfMemory = (given : List RawRecord) × AreGiven class octets given
+IsGivenFault class octets fault.OutOfMemory = (given : List RawRecord) × EncodeRecords class octets given
 IsGivenFault class octets _ = ⊥
 
 -- the record at the offset is the first of its owner and type with another TTL; the owner is the
@@ -204,7 +204,7 @@ hashing_fault _ = fault.LongOwner
 -- ---- the buffer after the call
 
 -- `count` octets were written to the beginning of the buffer
-pub record IsWritten (written old new : Octets) (count : ℕ) : Type 0 where
+pub record IsWrittenToBuffer (written old new : Octets) (count : ℕ) : Type 0 where
   pub counts : count ≡ length written
   pub is : new ≡ written ++ drop count old
 
@@ -232,7 +232,7 @@ IsChainFault making apex class records old (fault.ShortBuffer count) =
     IsFit making × HasZone apex class records (λ a sorted. (written : Octets)
     × making.is_chain a sorted written × IsTooMuch written old count)
 IsChainFault making apex class records old fault.OutOfMemory =
-    IsSpelled apex × IsFit making × ((given : List RawRecord) × AreGiven class records given)
+    IsSpelled apex × IsFit making × ((given : List RawRecord) × EncodeRecords class records given)
 IsChainFault making apex class records old e =
     IsFit making
     × HasZone apex class records (λ a sorted. IsSortedFault making class records a sorted e)
@@ -241,7 +241,7 @@ IsChainFault making apex class records old e =
 abbrev pub IsChainResult : Making → Octets → ℕ → Octets → Result ℕ Fault → Octets → Octets → Type 0
 IsChainResult making apex class records (Ok count) old new =
     IsFit making × HasZone apex class records (λ a sorted. (written : Octets)
-    × making.is_chain a sorted written × IsWritten written old new count)
+    × making.is_chain a sorted written × IsWrittenToBuffer written old new count)
 IsChainResult making apex class records (Err e) old new =
     IsChainFault making apex class records old e × (new ≡ old)
 

@@ -101,8 +101,8 @@ collision_number (Err e) = fault_number e
 
 -- the text of each verdict, each fault, each whole answer, a chain and a chain without a collision,
 -- whatever its count
-abbrev pub texts : List (ℕ × Octets)
-texts =
+abbrev pub text_table : List (ℕ × Octets)
+text_table =
     (verdict_number verdicts.NotProven, codes "not proven")
     ∷ (verdict_number verdicts.OutsideZone, codes "outside zone")
     ∷ (verdict_number verdicts.BelowDelegation, codes "below delegation")
@@ -151,7 +151,7 @@ text_among number [] = codes "no number of this library"
 text_among number (row ∷ rows) = if number == row.0 then row.1 else text_among number rows
 
 abbrev pub text_of : ℕ → Octets
-text_of number = text_among number texts
+text_of number = text_among number text_table
 
 -- no octet is 0
 abbrev pub has_no_end : Octets → Bool
@@ -159,7 +159,7 @@ has_no_end [] = true
 has_no_end (octet ∷ octets) = not (octet == 0) && has_no_end octets
 
 -- the octets are the text as C reads it: zero octets follow it, one or more, and nothing else
-pub record IsText (text octets : Octets) : Type 0 where
+pub record IsCText (text octets : Octets) : Type 0 where
   pub are : octets ≡ text ++ replicate (length octets - length text) 0
   pub fits : length text < length octets
   pub whole : has_no_end text ≡ true

@@ -6,7 +6,7 @@ use Rattle.domain_octets.specs.Octets.{Octets}
 use Rattle.domain_names.specs.Name.{same_name, wire_of, IsName, Name}
 use Rattle.domain_nsec.specs.Chain.{Link}
 use Rattle.domain_nsec3.specs.{Chain.{HashedLink, ParamRecord, Parameters}, View.as_param_record}
-use Rattle.domain_borrowed.specs.Data.{RawRecord, nsec_record, nsec3_record, param_record, IsNsec, IsNsec3, IsParam, record_octets, IsRecord}
+use Rattle.domain_borrowed.specs.Data.{RawRecord, nsec_record, nsec3_record, param_record, IsNsec, IsNsec3, IsParam, raw_record_octets, IsRecord}
 use Rattle.denial_c.specs.declared.{fault.Fault.{Fault, TheVariants.{Records, OutOfMemory}}, nsec3.Telling.Telling, question.Question.Question}
 use Rattle.domain_sha1.specs.Iterated.{sha1_answer}
 use Rattle.domain_hasher.specs.declared.error.Nsec3HashError.{Nsec3HashError}
@@ -31,31 +31,31 @@ is_param a class r =
     ((r.«data».rtype == rtypes.nsec3param) && same_name r.owner a) && (r.class == class)
 
 -- the octets encode records, one after another; those that are kept are these, in their order
-pub record AreAmong {K : Type 0} (is_kept : RawRecord → Bool) (raw : K → RawRecord)
+pub record EncodeKept {K : Type 0} (is_kept : RawRecord → Bool) (raw : K → RawRecord)
     (IsKept : K → Type 0) (octets : Octets) (kept : List K) : Type 0 where
   pub records : List RawRecord
-  pub are : octets ≡ flat_map record_octets records
+  pub are : octets ≡ flat_map raw_record_octets records
   pub whole : AllByRecursion IsRecord records
   pub those : filter is_kept records ≡ map raw kept
   pub fit : AllByRecursion IsKept kept
 
-abbrev pub AreNsecs : ℕ → Octets → List Link → Type 0
-AreNsecs class = AreAmong (is_of rtypes.nsec class) nsec_record IsNsec
+abbrev pub EncodeNsecs : ℕ → Octets → List Link → Type 0
+EncodeNsecs class = EncodeKept (is_of rtypes.nsec class) nsec_record IsNsec
 
-abbrev pub AreNsec3s : ℕ → Octets → List HashedLink → Type 0
-AreNsec3s class = AreAmong (is_of rtypes.nsec3 class) nsec3_record IsNsec3
+abbrev pub EncodeNsec3s : ℕ → Octets → List HashedLink → Type 0
+EncodeNsec3s class = EncodeKept (is_of rtypes.nsec3 class) nsec3_record IsNsec3
 
 -- the NSEC3PARAM records of the apex only
-abbrev pub AreParams : Name → ℕ → Octets → List ParamRecord → Type 0
-AreParams a class = AreAmong (is_param a class) param_record IsParam
+abbrev pub EncodeParams : Name → ℕ → Octets → List ParamRecord → Type 0
+EncodeParams a class = EncodeKept (is_param a class) param_record IsParam
 
 -- the octets do not encode records, or a record to be kept has malformed data
-abbrev pub HasNone : {K : Type 0} → (List K → Type 0) → Type 0
-HasNone Are = (kept : List _) → Are kept → ⊥
+abbrev pub EncodeNone : {K : Type 0} → (List K → Type 0) → Type 0
+EncodeNone Are = (kept : List _) → Are kept → ⊥
 
 -- the reason why no such records were kept
 abbrev pub IsReadFault : {K : Type 0} → (List K → Type 0) → Fault → Type 0
-IsReadFault Are Records = HasNone Are
+IsReadFault Are Records = EncodeNone Are
 IsReadFault Are OutOfMemory = Unit {0}
 IsReadFault Are _ = ⊥
 
@@ -65,12 +65,12 @@ IsReadFault Are _ = ⊥
 -- ---- names
 
 -- the octets encode the name, and nothing follows it
-pub record Spells (octets : Octets) (labels : Name) : Type 0 where
+pub record EncodesName (octets : Octets) (labels : Name) : Type 0 where
   pub are : octets ≡ wire_of labels
   pub valid : IsName labels
 
 abbrev pub IsSpelled : Octets → Type 0
-IsSpelled octets = (labels : Name) × Spells octets labels
+IsSpelled octets = (labels : Name) × EncodesName octets labels
 
 -- ---- NSEC
 
@@ -80,9 +80,9 @@ pub record AsksNsecs (apex name : Octets) (class : ℕ) (records : Octets)
   pub a : Name
   pub x : Name
   pub links : List Link
-  pub apex_is : Spells apex a
-  pub name_is : Spells name x
-  pub are : AreNsecs class records links
+  pub apex_is : EncodesName apex a
+  pub name_is : EncodesName name x
+  pub are : EncodeNsecs class records links
   pub holds : Holds links a x
 
 -- the first fault that applies
@@ -90,7 +90,7 @@ abbrev pub IsNsecFault : Octets → Octets → ℕ → Octets → Fault → Type
 IsNsecFault apex name class records fault.Apex = IsSpelled apex → ⊥
 IsNsecFault apex name class records fault.Name = IsSpelled apex × (IsSpelled name → ⊥)
 IsNsecFault apex name class records fault.Records =
-    IsSpelled apex × IsSpelled name × HasNone (AreNsecs class records)
+    IsSpelled apex × IsSpelled name × EncodeNone (EncodeNsecs class records)
 IsNsecFault apex name class records _ = ⊥
 
 -- the verdict on the type t
@@ -120,39 +120,39 @@ pub record Source : Type 1 where
 
 -- the octets encode the question
 pub record AreAsked (source : Source) (apex name : Octets) (q : HashedQuestion) : Type 0 where
-  pub apex_is : Spells apex q.apex
-  pub name_is : Spells name q.name
+  pub apex_is : EncodesName apex q.apex
+  pub name_is : EncodesName name q.name
   pub are : source.are q.apex q.links q.param
 
 -- the octets encode a question for which Holds is true
-pub record Asks (source : Source) (apex name : Octets) (Holds : HashedQuestion → Type 0)
+pub record AsksWhere (source : Source) (apex name : Octets) (Holds : HashedQuestion → Type 0)
     : Type 0 where
   pub q : HashedQuestion
   pub asked : AreAsked source apex name q
   pub holds : Holds q
 
 -- the apex has no NSEC3PARAM record, or several
-pub record HasNoParam (a : Name) (class : ℕ) (records : Octets) : Type 0 where
+pub record LacksParam (a : Name) (class : ℕ) (records : Octets) : Type 0 where
   pub params : List ParamRecord
-  pub are : AreParams a class records params
+  pub are : EncodeParams a class records params
   pub others : length params ≢ 1
 
 -- the reason why there is not one NSEC3PARAM record
 abbrev pub IsParamFault : Name → ℕ → Octets → Fault → Type 0
-IsParamFault a class records fault.Param = HasNoParam a class records
-IsParamFault a class records e = IsReadFault (AreParams a class records) e
+IsParamFault a class records fault.Param = LacksParam a class records
+IsParamFault a class records e = IsReadFault (EncodeParams a class records) e
 
 -- the reason why the NSEC3 records and the NSEC3PARAM record are not both there
 abbrev pub IsChainFault : ℕ → Octets → Name → Fault → Type 0
 IsChainFault class records a e =
-    IsReadFault (AreNsec3s class records) e
-    ⊎ (((links : List HashedLink) × AreNsec3s class records links) × IsParamFault a class records e)
+    IsReadFault (EncodeNsec3s class records) e
+    ⊎ (((links : List HashedLink) × EncodeNsec3s class records links) × IsParamFault a class records e)
 
 -- the NSEC3 records of a class, and the one NSEC3PARAM record of the apex
 pub record AreWithParam (class : ℕ) (records : Octets) (a : Name) (links : List HashedLink)
     (param : ParamRecord) : Type 0 where
-  pub nsec3s : AreNsec3s class records links
-  pub single : AreParams a class records (param ∷ [])
+  pub nsec3s : EncodeNsec3s class records links
+  pub single : EncodeParams a class records (param ∷ [])
 
 abbrev pub with_param : ℕ → Octets → Source
 with_param class records =
@@ -161,41 +161,41 @@ with_param class records =
 -- ---- The same, without the records that must be ignored for their flags.
 
 -- no flag is set but opt-out (RFC 5155, sections 4.1.2 and 8.2)
-abbrev pub has_known_flags : ℕ → Bool
-has_known_flags flags = nat_lt flags 2
+abbrev pub are_known_flags : ℕ → Bool
+are_known_flags flags = nat_lt flags 2
 
 abbrev pub known_links : List HashedLink → List HashedLink
-known_links all = filter (λ k. has_known_flags k.flags) all
+known_links all = filter (λ k. are_known_flags k.flags) all
 
 abbrev pub known_params : List ParamRecord → List ParamRecord
-known_params all = filter (λ p. has_known_flags p.flags) all
+known_params all = filter (λ p. are_known_flags p.flags) all
 
 -- the apex has no NSEC3PARAM record with known flags, or several
 pub record HasNoKnownParam (a : Name) (class : ℕ) (records : Octets) : Type 0 where
   pub params : List ParamRecord
-  pub are : AreParams a class records params
+  pub are : EncodeParams a class records params
   pub others : length (known_params params) ≢ 1
 
 -- the reason why there is not one such NSEC3PARAM record
 abbrev pub IsKnownParamFault : Name → ℕ → Octets → Fault → Type 0
 IsKnownParamFault a class records fault.Param = HasNoKnownParam a class records
-IsKnownParamFault a class records e = IsReadFault (AreParams a class records) e
+IsKnownParamFault a class records e = IsReadFault (EncodeParams a class records) e
 
 -- the reason why the NSEC3 records and such an NSEC3PARAM record are not both there
 abbrev pub IsKnownChainFault : ℕ → Octets → Name → Fault → Type 0
 IsKnownChainFault class records a e =
-    IsReadFault (AreNsec3s class records) e
-    ⊎ (((links : List HashedLink) × AreNsec3s class records links)
+    IsReadFault (EncodeNsec3s class records) e
+    ⊎ (((links : List HashedLink) × EncodeNsec3s class records links)
     × IsKnownParamFault a class records e)
 
 -- the NSEC3 records of a class with known flags, and the one such NSEC3PARAM record of the apex
 pub record AreKnownWithParam (class : ℕ) (records : Octets) (a : Name) (links : List HashedLink)
     (param : ParamRecord) : Type 0 where
   pub all : List HashedLink
-  pub nsec3s : AreNsec3s class records all
+  pub nsec3s : EncodeNsec3s class records all
   pub known : links ≡ known_links all
   pub params : List ParamRecord
-  pub are : AreParams a class records params
+  pub are : EncodeParams a class records params
   pub single : known_params params ≡ param ∷ []
 
 abbrev pub known_with_param : ℕ → Octets → Source
@@ -209,7 +209,7 @@ known_with_param class records =
 -- sections 8.1 and 8.2)
 abbrev pub is_known : Name → HashedLink → Bool
 is_known a k =
-    (k.parameters.algorithm == 1) && has_known_flags k.flags && is_some (hash_in a k.owner)
+    (k.parameters.algorithm == 1) && are_known_flags k.flags && is_some (hash_in a k.owner)
 
 -- the parameters of the first record; without records SHA-1, no iterations and no salt
 abbrev pub first_parameters : List HashedLink → Parameters
@@ -218,17 +218,17 @@ first_parameters (k ∷ links) = k.parameters
 
 -- the NSEC3 records of a class that are not to be ignored, and the parameters of the first of them:
 -- names are hashed by SHA-1, which fails for none
-pub record AreAlone (class : ℕ) (records : Octets) (a : Name) (links : List HashedLink)
+pub record AreNsec3sAlone (class : ℕ) (records : Octets) (a : Name) (links : List HashedLink)
     (param : ParamRecord) : Type 0 where
   pub all : List HashedLink
-  pub nsec3s : AreNsec3s class records all
+  pub nsec3s : EncodeNsec3s class records all
   pub known : links ≡ filter (is_known a) all
   pub first : param.parameters ≡ first_parameters links
   pub by_sha1 : param.parameters.algorithm ≡ 1
 
 abbrev pub alone : ℕ → Octets → Source
 alone class records =
-    record { are = AreAlone class records; is_fault = λ a. IsReadFault (AreNsec3s class records) }
+    record { are = AreNsec3sAlone class records; is_fault = λ a. IsReadFault (EncodeNsec3s class records) }
 
 -- the source that was chosen
 abbrev pub source_of : Telling → ℕ → Octets → Source
@@ -238,7 +238,7 @@ source_of telling.ByFirst = alone
 
 -- the apex encodes a name, and the source has this fault
 abbrev pub IsSpelledFault : Source → Octets → Fault → Type 0
-IsSpelledFault source apex e = (a : Name) × Spells apex a × source.is_fault a e
+IsSpelledFault source apex e = (a : Name) × EncodesName apex a × source.is_fault a e
 
 -- the first fault that applies, except that out of memory may come before others; the hasher's
 -- fault is that it fails for a name that is looked up
@@ -263,9 +263,9 @@ told_or_fault (Err e) = Err fault.Hasher
 -- returns nothing
 abbrev pub IsHashedResult : {V : Type 0} → Source → Octets → Octets
     → (HashedQuestion → Result V Nsec3HashError → Type 0) → Result V Fault → Type 0
-IsHashedResult source apex name Tells (Ok told) = Asks source apex name (λ q. Tells q (Ok told))
+IsHashedResult source apex name Tells (Ok told) = AsksWhere source apex name (λ q. Tells q (Ok told))
 IsHashedResult source apex name Tells (Err e) = IsNsec3Fault source apex name
-    (Asks source apex name (λ q. (n : ℕ) × Tells q (Err (hash_error.Hasher n)))) e
+    (AsksWhere source apex name (λ q. (n : ℕ) × Tells q (Err (hash_error.Hasher n)))) e
 
 -- the verdict on the type t
 abbrev pub IsNsec3Result : Source → Octets → Octets → ℕ → Result Verdict Fault → Type 0
@@ -275,7 +275,7 @@ IsNsec3Result source apex name t =
 -- ---- what C gets
 
 -- the numbers are those of an answer with this property
-pub record IsTold {A N : Type 0} (told : A → N) (numbers : N) (IsAnswer : A → Type 0) : Type 0 where
+pub record AreNumbersOf {A N : Type 0} (told : A → N) (numbers : N) (IsAnswer : A → Type 0) : Type 0 where
   pub answer : A
   pub is : IsAnswer answer
   pub tells : numbers ≡ told answer

@@ -1,7 +1,7 @@
 //! The records that octets encode, one after another, and those among them that count.
 ghost use Rattle.std.specs.Prelude.{◌≡◌, ◌<◌, ◌++◌, ◌&&◌, ◌==◌, map, length, IfErr, IfNone, IfOk, IfSome, OnSome};
-ghost use Rattle.domain_borrowed.specs.Data.{record_octets, IsRecord};
-ghost use Rattle.denial_c.specs.{Result.{AreAmong, IsReadFault}, Chains.BeginsNone};
+ghost use Rattle.domain_borrowed.specs.Data.{raw_record_octets, IsRecord};
+ghost use Rattle.denial_c.specs.{Result.{EncodeKept, IsReadFault}, Chains.BeginsNone};
 
 use crate::fault::Fault;
 use domain_base::{Class, ParsedName};
@@ -14,7 +14,7 @@ use std::alloc::Global;
 #[tactic(auto, using(domain_borrowed::proofs::DataLemmas::shorter))]
 pub(crate) fn next_record<'a>(parser: &mut Parser<'a>) -> Option<BorrowedRecord<'a>>
     requires { 0 < length parser.old.left }
-    ensures some { IfSome result (λ r. (parser.old.left ≡ record_octets r ++ parser.new.left)
+    ensures some { IfSome result (λ r. (parser.old.left ≡ raw_record_octets r ++ parser.new.left)
         × IsRecord r) }
     ensures less { OnSome result (length parser.new.left < length parser.old.left) }
     ensures none { IfNone result (BeginsNone parser.old.left) }
@@ -44,9 +44,9 @@ pub(crate) fn records_among<'a, K: ReadAs<'a>>(
     class: Class,
     octets: &'a [u8],
 ) -> Result<Vec<K>, Fault>
-    ensures ok { IfOk result (λ kept. AreAmong (λ r. K.counts apex.now r && (r.class == class))
+    ensures ok { IfOk result (λ kept. EncodeKept (λ r. K.counts apex.now r && (r.class == class))
         K.raw K.IsFit octets.now (map K.said kept.items)) }
-    ensures err { IfErr result (IsReadFault (AreAmong
+    ensures err { IfErr result (IsReadFault (EncodeKept
         (λ r. K.counts apex.now r && (r.class == class)) K.raw K.IsFit octets.now)) }
 {
     let mut kept = Vec::new(alloc);

@@ -14,9 +14,9 @@ ghost use Rattle.domain_nsec3.specs.declared.config.Nsec3ParamTtlMode.TheVariant
 ghost use Rattle.denial_c.specs.Chains.{hashed_config, nsec_making, nsec3_making, IsChainResult};
 ghost use Rattle.denial_c.specs.{Chains.IsCollisionResult, Result.{IsExpansionAnswer, IsNsecAnswer}};
 ghost use Rattle.denial_c.specs.Result.{IsNsec3Answer, alone, known_with_param, with_param};
-ghost use Rattle.denial_c.specs.Result.{IsNsecResult, IsNsec3Result, IsTold};
+ghost use Rattle.denial_c.specs.Result.{IsNsecResult, IsNsec3Result, AreNumbersOf};
 ghost use Rattle.denial_c.specs.Numbers.{answer_told, chain_told, collision_number, told_by, verdict_told};
-ghost use Rattle.denial_c.specs.Numbers.{text_of, IsText};
+ghost use Rattle.denial_c.specs.Numbers.{text_of, IsCText};
 
 mod among;
 mod answer;
@@ -54,7 +54,7 @@ pub extern "C" fn denial_version() -> u32
 /// a text that says so.
 #[unsafe(no_mangle)]
 pub extern "C" fn denial_find_text(number: u32, text: &mut &'static [u8; ROOM])
-    ensures { IsText (text_of number) text.new.now }
+    ensures { IsCText (text_of number) text.new.now }
 {
     *text = text::text_of(number);
 }
@@ -71,7 +71,7 @@ pub extern "C" fn denial_judge_nsec(
     records: &[u8],
     labels: &mut usize,
 ) -> u32
-    ensures { IsTold (told_by answer_told) (result, labels.new)
+    ensures { AreNumbersOf (told_by answer_told) (result, labels.new)
         (IsNsecAnswer apex.now name.now rtype class records.now) }
 {
     let answer = judge::nsec_answer(alloc, apex, name, rtype, class, records);
@@ -96,7 +96,7 @@ pub extern "C" fn denial_judge_nsec3(
     records: &[u8],
     labels: &mut usize,
 ) -> u32
-    ensures { IsTold (told_by answer_told) (result, labels.new)
+    ensures { AreNumbersOf (told_by answer_told) (result, labels.new)
         (IsNsec3Answer (known_with_param class records.now) apex.now name.now rtype limit) }
 {
     let told = Telling::ByKnownRecord;
@@ -122,7 +122,7 @@ pub extern "C" fn denial_judge_nsec3_alone(
     records: &[u8],
     labels: &mut usize,
 ) -> u32
-    ensures { IsTold (told_by answer_told) (result, labels.new)
+    ensures { AreNumbersOf (told_by answer_told) (result, labels.new)
         (IsNsec3Answer (alone class records.now) apex.now name.now rtype limit) }
 {
     let told = Telling::ByFirst;
@@ -149,7 +149,7 @@ pub extern "C" fn denial_judge_nsec3_expansion(
     records: &[u8],
     labels: &mut usize,
 ) -> u32
-    ensures { IsTold (told_by answer_told) (result, labels.new)
+    ensures { AreNumbersOf (told_by answer_told) (result, labels.new)
         (IsExpansionAnswer (known_with_param class records.now) apex.now name.now rrsig_labels
         limit) }
 {
@@ -175,7 +175,7 @@ pub extern "C" fn denial_judge_nsec3_expansion_alone(
     records: &[u8],
     labels: &mut usize,
 ) -> u32
-    ensures { IsTold (told_by answer_told) (result, labels.new)
+    ensures { AreNumbersOf (told_by answer_told) (result, labels.new)
         (IsExpansionAnswer (alone class records.now) apex.now name.now rrsig_labels limit) }
 {
     let told = Telling::ByFirst;
@@ -196,7 +196,7 @@ pub extern "C" fn denial_check_nsec(
     records: &[u8],
     labels: &mut usize,
 ) -> u32
-    ensures { IsTold (told_by verdict_told) (result, labels.new)
+    ensures { AreNumbersOf (told_by verdict_told) (result, labels.new)
         (IsNsecResult apex.now name.now rtype class records.now) }
 {
     let verdict = nsec::nsec_verdict(apex, name, rtype, class, records);
@@ -218,7 +218,7 @@ pub extern "C" fn denial_check_nsec3(
     records: &[u8],
     labels: &mut usize,
 ) -> u32
-    ensures { IsTold (told_by verdict_told) (result, labels.new)
+    ensures { AreNumbersOf (told_by verdict_told) (result, labels.new)
         (IsNsec3Result (with_param class records.now) apex.now name.now rtype) }
 {
     let verdict = nsec3::nsec3_verdict(alloc, Telling::ByRecord, apex, name, rtype, class, records);
@@ -241,7 +241,7 @@ pub extern "C" fn denial_check_nsec3_alone(
     records: &[u8],
     labels: &mut usize,
 ) -> u32
-    ensures { IsTold (told_by verdict_told) (result, labels.new)
+    ensures { AreNumbersOf (told_by verdict_told) (result, labels.new)
         (IsNsec3Result (alone class records.now) apex.now name.now rtype) }
 {
     let verdict = nsec3::nsec3_verdict(alloc, Telling::ByFirst, apex, name, rtype, class, records);
@@ -265,7 +265,7 @@ pub extern "C" fn denial_nsec_chain(
     chain: &mut [u8],
     count: &mut usize,
 ) -> u32
-    ensures { IsTold chain_told (result, count.new)
+    ensures { AreNumbersOf chain_told (result, count.new)
         (λ made. IsChainResult (nsec_making (record {
           assume_dnskeys_will_be_added = assume_dnskey;
           occlude_below_dname = occlude_below_dname;
@@ -299,7 +299,7 @@ pub extern "C" fn denial_nsec3_chain(
     chain: &mut [u8],
     count: &mut usize,
 ) -> u32
-    ensures { IsTold chain_told (result, count.new)
+    ensures { AreNumbersOf chain_told (result, count.new)
         (λ made. IsChainResult (nsec3_making Soa
         (hashed_config iterations salt.now opt_out assume_dnskey occlude_below_dname))
         apex.now class records.now made chain.old chain.new) }
@@ -335,7 +335,7 @@ pub extern "C" fn denial_nsec3_collision(
     earlier: &mut [u8; MAX_NAME],
     later: &mut [u8; MAX_NAME],
 ) -> u32
-    ensures { IsTold collision_number result
+    ensures { AreNumbersOf collision_number result
         (λ answer. IsCollisionResult apex.now class
         (hashed_config iterations salt.now opt_out false occlude_below_dname) records.now answer
         (record { old = earlier.old; new = earlier.new })

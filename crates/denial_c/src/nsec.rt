@@ -3,7 +3,7 @@ ghost use Rattle.std.specs.Prelude.{◌≡◌, ℕ, List, ◌++◌, IfErr, IfOk}
 ghost use Rattle.domain_names.specs.Name.{Name};
 ghost use Rattle.domain_nsec.specs.Chain.{Link};
 ghost use Rattle.domain_checker.specs.Reading.{HasRead};
-ghost use Rattle.denial_c.specs.Result.{AreNsecs, HasNone, IsNsecResult, Spells, IsSpelled};
+ghost use Rattle.denial_c.specs.Result.{EncodeNsecs, EncodeNone, IsNsecResult, EncodesName, IsSpelled};
 
 use crate::among::{is_kept, next_record};
 use crate::fault::Fault;
@@ -15,7 +15,7 @@ use domain_octets::Parser;
 
 /// Returns the name that octets encode. Rejects, with `fault`, octets that do not encode a name.
 pub(crate) fn read_name(octets: &[u8], fault: Fault) -> Result<ParsedName<'_>, Fault>
-    ensures ok { IfOk result (Spells octets.now) }
+    ensures ok { IfOk result (EncodesName octets.now) }
     ensures err { IfErr result (λ e. (e ≡ fault) × (IsSpelled octets.now → ⊥)) }
 {
     octets_begin_with_one_name();
@@ -36,11 +36,11 @@ fn hand_in(
     class: Class,
     octets: &[u8],
 ) -> Result<(), Fault>
-    ensures ok { IfOk result (λ _. (links : List Link) × AreNsecs class octets.now links
+    ensures ok { IfOk result (λ _. (links : List Link) × EncodeNsecs class octets.now links
         × ((a x : Name) (t : ℕ) (before : List Link) → HasRead a x t before check.old
         → HasRead a x t (before ++ links) check.new)) }
     ensures err { IfErr result (λ e. (e ≡ Fault.Records)
-        × HasNone (AreNsecs class octets.now)) }
+        × EncodeNone (EncodeNsecs class octets.now)) }
 {
     let mut parser = Parser::new(octets);
     'records: while parser.remaining() > 0 {

@@ -2,9 +2,9 @@
 ghost use Rattle.std.specs.Prelude.{◌≡◌, ◌≢◌, [], ◌∷◌, filter, length, map, IfErr, IfOk};
 ghost use Rattle.std.specs.Prelude.{List};
 ghost use Rattle.domain_nsec3.specs.{Chain.ParamRecord, View.{as_hashed_link, as_param_record, hashed_links_of, parameters_of}};
-ghost use Rattle.denial_c.specs.Result.{AreNsec3s, AreParams, IsReadFault, first_parameters, is_known};
-ghost use Rattle.denial_c.specs.Result.{source_of, AreAlone, AreWithParam, IsChainFault, IsNsec3Result};
-ghost use Rattle.denial_c.specs.Result.{has_known_flags, known_links, known_params, AreKnownWithParam};
+ghost use Rattle.denial_c.specs.Result.{EncodeNsec3s, EncodeParams, IsReadFault, first_parameters, is_known};
+ghost use Rattle.denial_c.specs.Result.{source_of, AreNsec3sAlone, AreWithParam, IsChainFault, IsNsec3Result};
+ghost use Rattle.denial_c.specs.Result.{are_known_flags, known_links, known_params, AreKnownWithParam};
 ghost use Rattle.denial_c.specs.Result.{IsKnownChainFault, IsKnownParamFault, IsParamFault};
 ghost use Rattle.denial_c.specs.declared.fault.Fault.TheVariants as fault;
 ghost use Rattle.domain_checker.specs.HashedVerdict.{links};
@@ -36,8 +36,8 @@ pub(crate) enum Telling {
 
 /// Returns whether no flag is set but opt-out. Records with other flags must be ignored (RFC 5155,
 /// sections 4.1.2 and 8.2).
-fn has_known_flags(flags: u8) -> bool
-    ensures { result ≡ has_known_flags flags }
+fn are_known_flags(flags: u8) -> bool
+    ensures { result ≡ are_known_flags flags }
 {
     flags < 2
 }
@@ -64,7 +64,7 @@ fn param_among<'a>(
     class: Class,
     octets: &'a [u8],
 ) -> Result<ReadNsec3param<'a>, Fault>
-    ensures ok { IfOk result (λ param. AreParams apex.now class octets.now
+    ensures ok { IfOk result (λ param. EncodeParams apex.now class octets.now
         (as_param_record (λ n. n) param ∷ [])) }
     ensures err { IfErr result (IsParamFault apex.now class octets.now) }
 {
@@ -93,7 +93,7 @@ fn flagged_links(mut nsec3s: Vec<ReadNsec3<'_>>) -> Vec<ReadNsec3<'_>>
     ensures { hashed_links_of (λ n. n) result.items
         ≡ known_links (hashed_links_of (λ n. n) nsec3s.entry.items) }
 {
-    nsec3s.retain(|nsec3| has_known_flags(nsec3.data().flags()));
+    nsec3s.retain(|nsec3| are_known_flags(nsec3.data().flags()));
     nsec3s
 }
 
@@ -102,7 +102,7 @@ fn flagged_params(mut params: Vec<ReadNsec3param<'_>>) -> Vec<ReadNsec3param<'_>
     ensures { map (as_param_record (λ n. n)) result.items
         ≡ known_params (map (as_param_record (λ n. n)) params.entry.items) }
 {
-    params.retain(|param| has_known_flags(param.data().flags()));
+    params.retain(|param| are_known_flags(param.data().flags()));
     params
 }
 
@@ -114,7 +114,7 @@ fn known_param_among<'a>(
     octets: &'a [u8],
 ) -> Result<ReadNsec3param<'a>, Fault>
     ensures ok { IfOk result (λ param. (params : List ParamRecord)
-        × AreParams apex.now class octets.now params
+        × EncodeParams apex.now class octets.now params
         × (known_params params ≡ as_param_record (λ n. n) param ∷ [])) }
     ensures err { IfErr result (IsKnownParamFault apex.now class octets.now) }
 {
@@ -146,7 +146,7 @@ fn is_known(apex: &ParsedName<'_>, nsec3: &ReadNsec3<'_>) -> bool
 {
     let hashed = nsec3.data();
     (hashed.hash_algorithm() == Nsec3HashAlgorithm::SHA1)
-        & has_known_flags(hashed.flags())
+        & are_known_flags(hashed.flags())
         & is_hash_owner(apex, nsec3.owner())
 }
 
@@ -185,9 +185,9 @@ fn alone_among<'a>(
     class: Class,
     octets: &'a [u8],
 ) -> Result<Nsec3Records<ParsedName<'a>, &'a [u8]>, Fault>
-    ensures ok { IfOk result (λ chain. AreAlone class octets.now apex.now (links (λ n. n) chain)
-        (as_param_record (λ n. n) chain.nsec3param)) }
-    ensures err { IfErr result (IsReadFault (AreNsec3s class octets.now)) }
+    ensures ok { IfOk result (λ chain. AreNsec3sAlone class octets.now apex.now
+        (links (λ n. n) chain) (as_param_record (λ n. n) chain.nsec3param)) }
+    ensures err { IfErr result (IsReadFault (EncodeNsec3s class octets.now)) }
 {
     let all = records_among(alloc, apex, class, octets)?;
     let known = known_of(apex, all);

@@ -1,6 +1,6 @@
 //! Makes the NSEC chain of records in octets.
 ghost use Rattle.std.specs.Prelude.{◌≡◌, ◌<◌, length, IfErr, IfOk};
-ghost use Rattle.denial_c.specs.Chains.{nsec_making, AreSorted, IsChainResult, IsSortedFault, IsWritten};
+ghost use Rattle.denial_c.specs.Chains.{nsec_making, AreSorted, IsChainResult, IsSortedFault, IsWrittenToBuffer};
 ghost use Rattle.denial_c.specs.declared.fault.Fault.TheVariants as fault;
 
 use crate::fault::Fault;
@@ -61,7 +61,7 @@ fn sorted_nsecs(
 /// `ShortBuffer` with their number if and only if the buffer has no room for them; the buffer stays
 /// as it was.
 pub(crate) fn write_octets(octets: &[u8], buffer: &mut [u8]) -> Result<usize, Fault>
-    ensures ok { IfOk result (IsWritten octets.now buffer.old buffer.new) }
+    ensures ok { IfOk result (IsWrittenToBuffer octets.now buffer.old buffer.new) }
     ensures err { IfErr result (λ e. (e ≡ fault.ShortBuffer (length octets.now))
         × (length buffer.old < length octets.now) × (buffer.new ≡ buffer.old)) }
 {

@@ -1,12 +1,12 @@
 //! The texts of numbers.
-ghost use Rattle.denial_c.specs.Numbers.{text_of, IsText};
+ghost use Rattle.denial_c.specs.Numbers.{text_of, IsCText};
 
 /// The number of octets of a text with the zero octets after it.
 pub(crate) const ROOM: usize = 32;
 
 /// Returns the text of a number, followed by zero octets.
 pub(crate) fn text_of(number: u32) -> &'static [u8; ROOM]
-    ensures { IsText (text_of number) result.now }
+    ensures { IsCText (text_of number) result.now }
 {
     match number {
         0 => b"not proven\0\0\0\0\0\0\0\0\0\0\0\0\0\0\0\0\0\0\0\0\0\0",

@@ -3,7 +3,7 @@ ghost use Rattle.std.specs.Prelude.{◌≡◌, List, filter, true, false, IfNone
 ghost use Rattle.domain_borrowed.specs.Data.{RawRecord, zone_of_raw};
 ghost use Rattle.domain_records.specs.Order.{IsInOrder};
 ghost use Rattle.domain_zone.specs.Zone.{covered_names, has_clash, has_unequal_ttls, records_of, IsFirstClash};
-ghost use Rattle.denial_c.specs.Chains.{AreSorted, IsSortedUnevenAt, AreGiven, is_in_set, is_other};
+ghost use Rattle.denial_c.specs.Chains.{AreSorted, IsSortedUnevenAt, EncodeRecords, is_in_set, is_other};
 ghost use Rattle.denial_c.specs.Chains.{IsFirstUneven, IsUnevenAt};
 
 use crate::among::next_record;
@@ -72,8 +72,8 @@ fn is_other(first: Option<Ttl>, ttl: Ttl) -> bool
 /// before it.
 #[tactic(auto, using(std::proofs::lemmas::Grind::common_steps, crate::proofs::UnevenLemmas::scanned_other, crate::proofs::UnevenLemmas::scanned_same))]
 fn uneven_offset(class: Class, octets: &[u8], set: &RrsetKey<'_>) -> usize
-    requires { (given : List RawRecord) × AreGiven class octets.now given × (has_clash (zone_of_raw
-        (filter (is_in_set set.now.owner set.now.rtype) given)) ≡ true) }
+    requires { (given : List RawRecord) × EncodeRecords class octets.now given ×
+        (has_clash (zone_of_raw (filter (is_in_set set.now.owner set.now.rtype) given)) ≡ true) }
     ensures { IsUnevenAt class octets.now set.now.owner set.now.rtype result }
 {
     let mut first: Option<Ttl> = None;

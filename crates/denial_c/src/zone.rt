@@ -1,7 +1,7 @@
 //! The records of a zone, as octets and sorted.
 ghost use Rattle.std.specs.Prelude.{List, IfErr, IfOk, OnOk};
 ghost use Rattle.domain_borrowed.specs.Data.{RawRecord};
-ghost use Rattle.denial_c.specs.Chains.{AreSorted, IsGivenFault, AreGiven};
+ghost use Rattle.denial_c.specs.Chains.{AreSorted, IsGivenFault, EncodeRecords};
 
 use crate::among::next_record;
 use crate::fault::Fault;
@@ -14,7 +14,7 @@ use std::alloc::Global;
 /// Checks that octets encode records of the class, one after another, and returns their number,
 /// which is used to reserve memory. Does not allocate.
 fn check_records(class: Class, octets: &[u8]) -> Result<usize, Fault>
-    ensures ok { OnOk result ((given : List RawRecord) × AreGiven class octets.now given) }
+    ensures ok { OnOk result ((given : List RawRecord) × EncodeRecords class octets.now given) }
     ensures err { IfErr result (IsGivenFault class octets.now) }
 {
     let mut count: usize = 0;
@@ -40,8 +40,8 @@ fn read_records<'a>(
     octets: &'a [u8],
     count: usize,
 ) -> Result<Vec<BorrowedRecord<'a>>, OutOfMemory>
-    requires { (given : List RawRecord) × AreGiven class octets.now given }
-    ensures { IfOk result (λ records. AreGiven class octets.now records.items) }
+    requires { (given : List RawRecord) × EncodeRecords class octets.now given }
+    ensures { IfOk result (λ records. EncodeRecords class octets.now records.items) }
 {
     let mut records = Vec::with_capacity(alloc, count)?;
     let mut parser = Parser::new(octets);

@@ -9,7 +9,8 @@ use Rattle.domain_names.specs.Name.{Name, Tokens}
 use Rattle.domain_octets.specs.{Text.words_of, Octets.Octets}
 use Rattle.domain_message.specs.{Entry.{EntryText, IsOfLine, OwnerTaken, RefusesBody}, declared.line.LineError.LineError}
 use Rattle.domain_message.proofs.OneLineLemmas.{in_body, none_in}
-use Rattle.denial_program.specs.{Listing.{IsBad, IsPlain, IsSkipped, is_plain, Give, IsFirstBad, Refuses, Says, TakesLine, TakesNone}, declared.line.Line.Line}
+use Rattle.denial_program.specs.Listing.{IsBad, IsPlain, IsSkipped, is_plain, Give, IsFirstBad, RefusesWords, Says, TakesLine, TakesNone}
+use Rattle.denial_program.specs.declared.line.Line.{Line}
 use Rattle.denial_program.specs.declared.line.Line.TheVariants.{Nothing, Record, Bad}
 use lib.Dec.{eqb-suc-zero}
 use Rattle.domain_borrowed.specs.Data.{RawRecord}
@@ -28,12 +29,12 @@ plain_is_text line plain = let low = plain_is_low line plain in grind (arith, co
 
 -- what is refused behind an owner
 pub refused_behind : (owner : Name) (ws behind : Tokens) (e : LineError) → OwnerTaken owner ws behind
-    → RefusesBody (λ (o : Octets). o) (λ (n : Name). n) None behind e → Refuses ws e
+    → RefusesBody (λ (o : Octets). o) (λ (n : Name). n) None behind e → RefusesWords ws e
 refused_behind owner ws behind e owned why = inr (in_body (λ o. o) (λ n. n) None owner ws behind e owned why)
 
 -- a line that is not skipped, and whose words are refused
 pub is_bad : (line : List ℕ) (tokens : Tokens) (skipped : Bool) (e : LineError) → tokens ≡ words_of line
-    → IsTrue skipped ↔ IsSkipped line → skipped ≡ false → IsOfLine None e → Refuses tokens e → IsBad line
+    → IsTrue skipped ↔ IsSkipped line → skipped ≡ false → IsOfLine None e → RefusesWords tokens e → IsBad line
 is_bad line tokens skipped e same test off own (inl memory) = absurd (subst (IsOfLine None) memory own)
 is_bad line tokens skipped e same test off own (inr why) = record {
   seen = λ s. absurd (let on = test.1 s in cc);

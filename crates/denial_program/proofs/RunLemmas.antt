@@ -11,7 +11,8 @@ use Rattle.domain_groups.specs.declared.error.SigningError.{SigningError, TheVar
 use Rattle.domain_borrowed.specs.Data.{RawRecord, zone_of_raw}
 use Rattle.domain_any_order.specs.AnyOrder.{AreMixed}
 use Rattle.denial_program.specs.{Fault.{IsOfRecords, IsReadingFault, IsReadToEnd}, Answer.{fault_of_zone, usual_nsec3_config, HasNoAnswer, HasNoNsecs}}
-use Rattle.denial_program.specs.{Answer.{IsAnswer, HasNoNsec3s, IsNsecs, IsNsec3s, IsUnmade, IsUnsorted, Sorts}, Run.{IsUnwritten, IsOver, IsRun, IsWritten}}
+use Rattle.denial_program.specs.Answer.{IsAnswer, HasNoNsec3s, IsNsecs, IsNsec3s, IsUnmade, IsUnsorted, SortsRaw}
+use Rattle.denial_program.specs.Run.{IsUnwritten, HoldsOfInput, IsProgramRun, IsWritten}
 use Rattle.denial_program.specs.{Run.ReadsLines, Command.Params, declared.{answer.Reply.{Reply, TheVariants.{Nsecs, Nsec3s}}, command.Command.Command}}
 use Rattle.denial_program.specs.declared.{command.Command.TheVariants.{Chain, CheckNsec, CheckNsec3}, fault.DenialFault.{DenialFault, TheVariants.Line}}
 use Rattle.denial_program.specs.{declared.fault.DenialFault.TheVariants.{Usage, Write, MixedClasses as NoClass, OutOfMemory as NoMemory}, Check.AreAmong}
@@ -33,7 +34,7 @@ memory_told _ told = absurd (cc)
 
 -- ---- the chain of sorted records, and why they have none
 
-module _ (given sorted : List RawRecord) (apex : Name) (sorts : Sorts given sorted) (one : IsOneClass sorted) where
+module _ (given sorted : List RawRecord) (apex : Name) (sorts : SortsRaw given sorted) (one : IsOneClass sorted) where
   pub nsecs_made : (links : List Link) → IsChain (zone_of_raw sorted) apex usual_config links → IsNsecs given apex (Nsecs links)
   nsecs_made links chain = grind (arith, common_steps)
 
@@ -45,7 +46,7 @@ module _ (given sorted : List RawRecord) (apex : Name) (sorts : Sorts given sort
         → IsChainParam (zone_of_raw sorted) apex (usual_nsec3_config answers p) Soa made.param → IsNsec3s answers given apex p (Nsec3s made)
     nsec3s_made made chain told = grind (arith, common_steps)
 
-    pub no_nsec3s : (e : SigningError) → hashed.IsFirstFault (zone_of_raw sorted) apex (usual_nsec3_config answers p) e
+    pub no_nsec3s : (e : SigningError) → hashed.IsFirstHashedFault (zone_of_raw sorted) apex (usual_nsec3_config answers p) e
         → HasNoNsec3s answers given apex p (fault_of_zone e)
     no_nsec3s e fault = grind (arith, common_steps)
 
@@ -128,12 +129,12 @@ on_ok f r h = grind (arith, common_steps)
 abbrev Run : {C X R : Type 0} → (X → Octets) → (Tokens → C → Type 0) → Tokens → (C → List RawRecord → X → Type 0)
     → (C → List RawRecord → DenialFault → Type 0) → Option Octets → Option Octets → Option Octets → Option Octets → Result R DenialFault → Type 0
 Run text_of Asks words is_answer has_none =
-    IsRun text_of (λ lines x. IsOver Asks (λ c given. is_answer c given x) words lines)
-    (λ lines e. IsOver Asks (λ c given. has_none c given e) words lines)
+    IsProgramRun text_of (λ lines x. HoldsOfInput Asks (λ c given. is_answer c given x) words lines)
+    (λ lines e. HoldsOfInput Asks (λ c given. has_none c given e) words lines)
 
 over : {C : Type 0} (Asks : Tokens → C → Type 0) (words : Tokens) (input : Option Octets) (command : C) (given : List RawRecord) → Asks words command
     → IfSome input (λ bytes. Give (lines bytes) given) → (P : C → List RawRecord → Type 0) → P command given
-    → IfSome input (λ bytes. IsOver Asks P words (lines bytes))
+    → IfSome input (λ bytes. HoldsOfInput Asks P words (lines bytes))
 over Asks words input command given asks gives P so =
     known_so _ _ input (λ bytes gives. record { command = command; given = given; asks = asks; gives = gives; so = so }) gives
 

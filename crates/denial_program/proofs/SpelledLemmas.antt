@@ -10,10 +10,10 @@ use Rattle.domain_base.specs.Types as rtypes
 use Rattle.domain_codecs.{specs.Codec.{base32_digits, base32_octets, base32_value}, proofs.CodecLemmas.IsScale}
 use Rattle.domain_bitmap.{specs.{Blocks.IsBitmap, Text.{OwnerHashText, SaltText, dash, digits, is_among}}, proofs.BitmapLemmas.IsBitmap-bitmap_octets}
 use Rattle.domain_fields.specs.Layout.{Fits, Values}
-use Rattle.domain_chain_rdata.specs.{Text.Nsec3paramText, Rdata.{hash_fields, nsec3param, nsec3_values, nsec3param_values}}
+use Rattle.domain_chain_rdata.specs.{Text.Nsec3paramText, Rdata.{hash_fields, nsec3param_layout, nsec3_values, nsec3param_values}}
 use Rattle.domain_rdata.specs.{Zone.{Kind, next_by_name, next_by_hash, params, plain, kind_of, rtype_of}, Scan.{RdataText, own, generic}}
 use Rattle.domain_rdata.specs.declared.zone_record_data.ZoneRecordData.{ZoneRecordData, TheVariants.{Soa, Nsec, Nsec3, Nsec3param, Unknown}}
-use Rattle.domain_plain.specs.Plain.{soa}
+use Rattle.domain_plain.specs.Plain.{soa_layout}
 use Rattle.domain_borrowed.specs.Data.{RawRecord, IsParam, param_record}
 use Rattle.domain_any_order.{specs.RawRecords.{HaveOneChain, TellsMinimum, raw_record}, proofs.RawLemmas.one_chain}
 use Rattle.denial_program.specs.{Check.{IsNsecOf, IsNsec3Of}, Listing.{Give, GiveData}, Spelled.{LineText, SpelledRecord}}
@@ -66,7 +66,7 @@ spelled_hash text hash t = (
 number_fits : (bits : ℕ) (text : Octets) (n : ℕ) → IsNumber bits text n → n < 2 ^ bits
 number_fits bits text n t = subst (λ m. m < 2 ^ bits) (sym t.value) t.fits
 
-spelled_params : (old new : Tokens) (v : Values nsec3param) → Nsec3paramText old v new → Fits nsec3param v
+spelled_params : (old new : Tokens) (v : Values nsec3param_layout) → Nsec3paramText old v new → Fits nsec3param_layout v
 spelled_params old new v t = grind (arith, common_steps, (number_fits 8), (number_fits 16), spelled_salt)
 
 -- ---- data that are spelled in the form of their type, or as octets
@@ -75,7 +75,7 @@ abbrev pub AreSound : SpelledData → Type 0
 AreSound (Soa d) = d.minimum < 2 ^ 32
 AreSound (Nsec d) = IsName d.next_name × IsBitmap d.types
 AreSound (Nsec3 d) = Fits hash_fields (nsec3_values d).0 × IsBitmap d.types
-AreSound (Nsec3param d) = Fits nsec3param (nsec3param_values d)
+AreSound (Nsec3param d) = Fits nsec3param_layout (nsec3param_values d)
 AreSound (Unknown d) = kind_of d.rtype ≡ None
 AreSound _ = Unit {0}
 
@@ -104,7 +104,7 @@ formless rtype other k none same known = let e = subst (λ t. kind_of t ≡ None
 
 minimum_told : (d : SpelledData) → AreSound d → TellsMinimum d
 minimum_told (Soa d) sound = sound
-minimum_told (Unknown d) sound = λ e. formless d.rtype rtypes.soa (plain soa) sound e refl
+minimum_told (Unknown d) sound = λ e. formless d.rtype rtypes.soa (plain soa_layout) sound e refl
 minimum_told _ sound = tt
 
 given_spelled : (lines : List Octets) (given : List RawRecord) → Give lines given

@@ -8,16 +8,17 @@ use Rattle.domain_groups.specs.declared.error.SigningError.TheVariants as signin
 use Rattle.domain_nsec.specs.Chain.{usual_config}
 use Rattle.domain_nsec3.specs.{Chain.ChainConfig, View.{HasherAnswer, hash_by, parameters_of}, declared.config.Nsec3ParamTtlMode.TheVariants.Soa}
 use Rattle.domain_borrowed.specs.Data.{RawRecord}
-use Rattle.domain_any_order.specs.{AnyOrder.{AreMixed, Sorts as SortsBy, IsChainOf, HasNoChain, IsHashedChainOf, HasNoHashedChain}, RawRecords.raw_view}
+use Rattle.domain_any_order.specs.{AnyOrder.{AreMixed, Sorts, IsChainOf, HasNoChain, IsHashedChainOf, HasNoHashedChain}, RawRecords.raw_view}
 use Rattle.domain_any_order.specs.declared.error.ChainError.{ChainError}
 use Rattle.domain_any_order.specs.declared.error.ChainError.TheVariants as chain_error
-use Rattle.denial_program.specs.{Check.{HasNoNsec3Verdict, IsNsec3Verdict, IsNsecVerdict}, Command.{Asks, Params}, Run.IsOver, declared.answer.Reply.Reply}
+use Rattle.denial_program.specs.{Check.{HasNoNsec3Verdict, IsNsec3Verdict, IsNsecVerdict}, Command.{Asks, Params}, Run.HoldsOfInput}
+use Rattle.denial_program.specs.declared.answer.Reply.{Reply}
 use Rattle.denial_program.specs.declared.{answer.Reply.TheVariants.{Nsecs, Nsec3s}, command.Command.{Command, TheVariants.{Chain, CheckNsec, CheckNsec3}}}
 use Rattle.denial_program.specs.{declared.fault.DenialFault.{DenialFault, TheVariants.{Unprepared, MixedClasses, Signing, OutOfMemory}}, Fault.prepare_error}
 
 -- sorted is the sorted set of the records, by owner, class, type and octets
-abbrev pub Sorts : List RawRecord → List RawRecord → Type 0
-Sorts = SortsBy raw_view
+abbrev pub SortsRaw : List RawRecord → List RawRecord → Type 0
+SortsRaw = Sorts raw_view
 
 -- the reason why the records are not sorted: they are of several classes, or they are of one class
 -- and there was no memory to prepare them
@@ -38,11 +39,11 @@ pub record IsReplyOf {K : Type 0} (reply : K → Reply) (is_such : K → Type 0)
   pub chain : is_such made
 
 -- there is no chain, for this reason
-abbrev pub HasNone : (ChainError → Type 0) → DenialFault → Type 0
-HasNone is_why MixedClasses = is_why chain_error.MixedClasses
-HasNone is_why (Signing e) = is_why (chain_error.Signing e)
-HasNone is_why OutOfMemory = is_why chain_error.OutOfMemory
-HasNone is_why _ = ⊥
+abbrev pub IsNoChainFault : (ChainError → Type 0) → DenialFault → Type 0
+IsNoChainFault is_why MixedClasses = is_why chain_error.MixedClasses
+IsNoChainFault is_why (Signing e) = is_why (chain_error.Signing e)
+IsNoChainFault is_why OutOfMemory = is_why chain_error.OutOfMemory
+IsNoChainFault is_why _ = ⊥
 
 -- the reply is the NSEC chain of the records, with the configuration of `GenerateNsecConfig::new`;
 -- there is none
@@ -50,7 +51,7 @@ abbrev pub IsNsecs : List RawRecord → Name → Reply → Type 0
 IsNsecs given apex = IsReplyOf Nsecs (IsChainOf raw_view given apex usual_config)
 
 abbrev pub HasNoNsecs : List RawRecord → Name → DenialFault → Type 0
-HasNoNsecs given apex = HasNone (HasNoChain raw_view given apex usual_config)
+HasNoNsecs given apex = IsNoChainFault (HasNoChain raw_view given apex usual_config)
 
 -- the configuration of an NSEC3 chain with these parameters: that of `GenerateNsec3Config::new`
 abbrev pub usual_nsec3_config : HasherAnswer → Params → ChainConfig
@@ -73,7 +74,7 @@ IsNsec3s answers given apex p =
 
 abbrev pub HasNoNsec3s : HasherAnswer → List RawRecord → Name → Params → DenialFault → Type 0
 HasNoNsec3s answers given apex p =
-    HasNone (HasNoHashedChain raw_view given apex (usual_nsec3_config answers p))
+    IsNoChainFault (HasNoHashedChain raw_view given apex (usual_nsec3_config answers p))
 
 abbrev pub IsAnswer : HasherAnswer → Command → List RawRecord → Reply → Type 0
 IsAnswer answers (Chain apex None) given answer = IsNsecs given apex answer
@@ -96,8 +97,8 @@ HasNoAnswer answers (CheckNsec3 q) given fault = HasNoNsec3Verdict answers given
 -- none over them, for this reason
 abbrev pub Answers : HasherAnswer → Tokens → List Octets → Reply → Type 0
 Answers answers words lines answer =
-    IsOver Asks (λ command given. IsAnswer answers command given answer) words lines
+    HoldsOfInput Asks (λ command given. IsAnswer answers command given answer) words lines
 
 abbrev pub GivesNoAnswer : HasherAnswer → Tokens → List Octets → DenialFault → Type 0
 GivesNoAnswer answers words lines fault =
-    IsOver Asks (λ command given. HasNoAnswer answers command given fault) words lines
+    HoldsOfInput Asks (λ command given. HasNoAnswer answers command given fault) words lines

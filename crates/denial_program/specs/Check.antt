@@ -81,7 +81,7 @@ pub record HasNoParam (apex : Name) (given : List RawRecord) : Type 0 where
   pub others : length params ≢ 1
 
 -- the hasher fails for a name, for the first reason that the records of the apex lead to
-pub record IsRefusedBy (IsFirst : HashedRecords → ℕ → Type 0) (hashes : HasherAnswer)
+pub record IsRefusedForRecords (IsFirst : HashedRecords → ℕ → Type 0) (hashes : HasherAnswer)
     (given : List RawRecord) (apex : Name) (error : SigningError) : Type 0 where
   pub param : ParamRecord
   pub single : AreParams apex given (param ∷ [])
@@ -93,7 +93,7 @@ pub record IsRefusedBy (IsFirst : HashedRecords → ℕ → Type 0) (hashes : Ha
 
 -- the hasher fails for a name that is looked up
 abbrev pub IsRefused : HasherAnswer → List RawRecord → Question → SigningError → Type 0
-IsRefused hashes given q = IsRefusedBy (λ R. IsFirstRefusal R q.name) hashes given q.apex
+IsRefused hashes given q = IsRefusedForRecords (λ R. IsFirstRefusal R q.name) hashes given q.apex
 
 -- the reason why there is no verdict: the apex has no NSEC3PARAM record, or several, or the hasher
 -- fails

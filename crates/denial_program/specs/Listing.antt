@@ -3,7 +3,7 @@ use Rattle.std.specs.{Prelude.{◌≡◌, ◌⊎◌, ℕ, ◌+◌, Bool, nat_le,
 use Rattle.domain_octets.specs.{Text.{tilde, words_of}, Octets.Octets}
 use Rattle.domain_names.specs.Name.{Tokens, Name}
 use Rattle.domain_borrowed.specs.Data.{RawRecord}
-use Rattle.domain_message.specs.{Entry.{IsNoEntry, RefusesEntry}, declared.line.LineError.{LineError, TheVariants.OutOfMemory}}
+use Rattle.domain_message.specs.{Entry.{IsNoEntry, RefusesRecordText}, declared.line.LineError.{LineError, TheVariants.OutOfMemory}}
 use Rattle.denial_program.specs.{Spelled.{LineText, SpelledRecord, SpellsRecord}, declared.line.Line.{Line, TheVariants.{Nothing, Record, Bad}}}
 
 -- ---- What the lines of a text give.
@@ -72,9 +72,9 @@ Says line (Record r) = IsLineRecord line r
 Says line Bad = IsBad line
 
 -- the reason why words are not a record: out of memory, or what is missing or malformed
-abbrev pub Refuses : Tokens → LineError → Type 0
-Refuses ws error = (error ≡ OutOfMemory)
-    ⊎ RefusesEntry (λ (o : Octets). o) (λ (n : Name). n) None ws error
+abbrev pub RefusesWords : Tokens → LineError → Type 0
+RefusesWords ws error = (error ≡ OutOfMemory)
+    ⊎ RefusesRecordText (λ (o : Octets). o) (λ (n : Name). n) None ws error
 
 -- ---- Lines that are taken from an input whose octets are known.
 

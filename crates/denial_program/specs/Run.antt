@@ -28,7 +28,7 @@ IsUnwritten {X} is_such has_none fault =
     ((fault ≡ Write) × ((made : X) × is_such made)) ⊎ has_none fault
 
 -- the arguments are a command, the lines give records, and this holds for both
-pub record IsOver {C : Type 0} (Asks : Tokens → C → Type 0) (is : C → List RawRecord → Type 0)
+pub record HoldsOfInput {C : Type 0} (Asks : Tokens → C → Type 0) (is : C → List RawRecord → Type 0)
     (words : Tokens) (lines : List Octets) : Type 0 where
   pub command : C
   pub given : List RawRecord
@@ -38,7 +38,7 @@ pub record IsOver {C : Type 0} (Asks : Tokens → C → Type 0) (is : C → List
 
 -- what the lines of an input answer is printed, and no more; a fault of the records is reported
 -- only if they have no answer, for this reason, and a fault of writing only if they have an answer
-pub record IsRun {X R : Type 0} (text_of : X → Octets) (IsAnswer : List Octets → X → Type 0)
+pub record IsProgramRun {X R : Type 0} (text_of : X → Octets) (IsAnswer : List Octets → X → Type 0)
     (HasNone : List Octets → DenialFault → Type 0) (input left : Option Octets)
     (old new : Option Octets) (result : Result R DenialFault) : Type 0 where
   pub ok : OnOk result (IfSome input (λ bytes. IsWritten text_of (IsAnswer (lines bytes)) old new))

@@ -44,7 +44,7 @@ abbrev pub nsec3s_text : ChainRecords → Octets
 nsec3s_text made = lines_of nsec3_line made.links ++ (nsec3param_line made.param ++ codes "\n")
 
 -- a line for each record of a chain, or one line with a verdict
-abbrev pub answer_text : Reply → Octets
-answer_text (Nsecs links) = lines_of nsec_line links
-answer_text (Nsec3s made) = nsec3s_text made
-answer_text (Verdict name verdict) = verdict_text name verdict ++ codes "\n"
+abbrev pub reply_text : Reply → Octets
+reply_text (Nsecs links) = lines_of nsec_line links
+reply_text (Nsec3s made) = nsec3s_text made
+reply_text (Verdict name verdict) = verdict_text name verdict ++ codes "\n"

@@ -4,10 +4,10 @@ ghost use Rattle.std.specs.Io.KnownBytes.{Appends};
 ghost use Rattle.domain_records.specs.Order.{IsInOrder, IsOneClass};
 ghost use Rattle.domain_nsec.specs.Chain.{usual_config, IsFaultless};
 ghost use Rattle.domain_borrowed.specs.Data.{RawRecord, zone_of_raw};
-ghost use Rattle.denial_program.specs.Answer.{HasNoAnswer, HasNoNsecs, IsAnswer, IsNsecs, IsUnmade, Sorts};
+ghost use Rattle.denial_program.specs.Answer.{HasNoAnswer, HasNoNsecs, IsAnswer, IsNsecs, IsUnmade, SortsRaw};
 ghost use Rattle.denial_program.specs.declared.command.Command.TheVariants.{Chain};
 ghost use Rattle.denial_program.specs.{Fault.IsBeforeOutput, Run.{IsUnwritten, IsWritten}};
-ghost use Rattle.denial_program.specs.Text.{answer_text, lines_of, nsec_line, nsec3_line, nsec3s_text};
+ghost use Rattle.denial_program.specs.Text.{reply_text, lines_of, nsec_line, nsec3_line, nsec3s_text};
 ghost use Rattle.denial_program.specs.declared.fault.DenialFault.TheVariants.{OutOfMemory};
 
 use crate::check::{nsec_reply, nsec3_reply};
@@ -54,9 +54,9 @@ pub fn nsecs_of<'s, 'a>(
     requires one_class { IsOneClass sorted.now }
     requires in_order { IsInOrder (λ n. n) (λ d. d.rtype) sorted.now }
     ensures ok { IfOk result (λ answer. (given : List RawRecord)
-        → Sorts given sorted.now → IsNsecs given apex.now answer) }
+        → SortsRaw given sorted.now → IsNsecs given apex.now answer) }
     ensures err { IfErr result (λ fault. (given : List RawRecord)
-        → Sorts given sorted.now → HasNoNsecs given apex.now fault) }
+        → SortsRaw given sorted.now → HasNoNsecs given apex.now fault) }
     ensures faultless { OnOk result (IsFaultless (zone_of_raw sorted.now) apex.now usual_config) }
     ensures memory { IsErrOf result OutOfMemory → IsFaultless
         (zone_of_raw sorted.now) apex.now usual_config }
@@ -81,13 +81,13 @@ fn chain_reply<'s, 'a, H: Nsec3Hasher>(
 ) -> Result<Reply<'s, 'a>, DenialFault>
     requires one_class { IsOneClass sorted.now }
     requires in_order { IsInOrder (λ n. n) (λ d. d.rtype) sorted.now }
-    ensures ok { IfOk result (λ answer. (given : List RawRecord) → Sorts given sorted.now
+    ensures ok { IfOk result (λ answer. (given : List RawRecord) → SortsRaw given sorted.now
         → IsAnswer (H.answer hasher.now) (Chain apex.now parameters) given answer) }
-    ensures err { IfErr result (λ fault. (given : List RawRecord) → Sorts given sorted.now
+    ensures err { IfErr result (λ fault. (given : List RawRecord) → SortsRaw given sorted.now
         → HasNoAnswer (H.answer hasher.now) (Chain apex.now parameters) given fault) }
 
     // Memory may still run out while the chain is written.
-    ensures memory { OnOk result ((given : List RawRecord) → Sorts given sorted.now
+    ensures memory { OnOk result ((given : List RawRecord) → SortsRaw given sorted.now
         → HasNoAnswer (H.answer hasher.now) (Chain apex.now parameters) given OutOfMemory) }
 {
     let Some(parameters) = parameters else {
@@ -148,7 +148,7 @@ impl<'s, 'a> Reply<'s, 'a> {
     /// Writes the reply, and flushes the output.
     fn write<W: Write>(&self, output: &mut W) -> io::Result<()>
         ensures { OnOk result
-            (Appends (W.contents output.old) (W.contents output.new) (answer_text self.now)) }
+            (Appends (W.contents output.old) (W.contents output.new) (reply_text self.now)) }
     {
         match self {
             Reply::Nsecs(chain) => write_nsecs(chain, output)?,
@@ -165,7 +165,7 @@ impl<'s, 'a> Reply<'s, 'a> {
     /// memory.
     fn send<W: Write>(self, output: &mut W) -> Result<(), DenialFault>
         ensures ok { OnOk result
-            (Appends (W.contents output.old) (W.contents output.new) (answer_text self.entry)) }
+            (Appends (W.contents output.old) (W.contents output.new) (reply_text self.entry)) }
         ensures err { IfErr result (λ e. (e ≡ DenialFault.Write) ⊎ (e ≡ OutOfMemory)) }
     {
         match self.write(output) {
@@ -186,7 +186,7 @@ fn write_chain_of<'a, W: Write, H: Nsec3Hasher>(
     hasher: &H,
     output: &mut W,
 ) -> Result<(), DenialFault>
-    ensures ok { OnOk result (IsWritten answer_text
+    ensures ok { OnOk result (IsWritten reply_text
         (IsAnswer (H.answer hasher.now) (Chain apex.now parameters) records.entry.items)
         (W.contents output.old) (W.contents output.new)) }
     ensures err { IfErr result (IsUnwritten
@@ -224,7 +224,7 @@ pub fn write_answer<'a, W: Write, H: Nsec3Hasher>(
     hasher: &H,
     output: &mut W,
 ) -> Result<(), DenialFault>
-    ensures ok { OnOk result (IsWritten answer_text
+    ensures ok { OnOk result (IsWritten reply_text
         (IsAnswer (H.answer hasher.now) command records.entry.items)
         (W.contents output.old) (W.contents output.new)) }
     ensures err { IfErr result

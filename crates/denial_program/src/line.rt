@@ -1,6 +1,6 @@
 //! A line of the input.
 ghost use Rattle.std.specs.Prelude.{◌≡◌, IfErr, IfNone, IfOk, IfSome};
-ghost use Rattle.denial_program.specs.{Spelled.LineText, Listing.{IsPlain, Refuses, Says}};
+ghost use Rattle.denial_program.specs.{Spelled.LineText, Listing.{IsPlain, RefusesWords, Says}};
 
 use crate::store::Store;
 use domain_base::{IterScanner, Name, Scanner};
@@ -55,7 +55,7 @@ fn scan_record<'a, S: Scanner<Name = ZoneName, Octets = ZoneOctets>>(
     scanner: &mut S,
 ) -> Result<BorrowedRecord<'a>, LineError>
     ensures ok { IfOk result (LineText (S.tokens scanner.old)) }
-    ensures err { IfErr result (Refuses (S.tokens scanner.old)) }
+    ensures err { IfErr result (RefusesWords (S.tokens scanner.old)) }
 {
     let owner = store.scan_owner(alloc, scanner)?;
     let record = scan_behind_owner(alloc, scanner, ())?;

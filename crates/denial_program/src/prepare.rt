@@ -6,7 +6,7 @@
 ghost use Rattle.std.specs.Prelude.{◌≡◌, ◌⊎◌, IfErr, IfOk, IfSome, map};
 ghost use Rattle.std.specs.{Prelude.string_bytes, Str.Lines.lines};
 ghost use Rattle.domain_records.specs.Order.{IsInOrder, IsOneClass};
-ghost use Rattle.denial_program.specs.{Answer.{IsUnsorted, Sorts}, Command.{Asks, IsNoCommand}};
+ghost use Rattle.denial_program.specs.{Answer.{IsUnsorted, SortsRaw}, Command.{Asks, IsNoCommand}};
 ghost use Rattle.denial_program.specs.{Fault.{IsReadingFault, prepare_error}, Listing.Give};
 ghost use Rattle.denial_program.specs.Run.{ReadsLines};
 
@@ -89,7 +89,7 @@ pub fn read_records<'a, R: BufRead>(
 pub fn sort_zone<'a>(
     records: Vec<BorrowedRecord<'a>>,
 ) -> Result<Vec<BorrowedRecord<'a>>, DenialFault>
-    ensures sorts { IfOk result (λ sorted. Sorts records.entry.items sorted.items) }
+    ensures sorts { IfOk result (λ sorted. SortsRaw records.entry.items sorted.items) }
     ensures one_class { IfOk result (λ sorted. IsOneClass sorted.items) }
     ensures in_order { IfOk result (λ sorted. IsInOrder (λ n. n) (λ d. d.rtype) sorted.items) }
     ensures err { IfErr result (IsUnsorted records.entry.items) }

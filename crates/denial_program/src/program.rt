@@ -2,8 +2,8 @@
 ghost use Rattle.std.specs.Prelude.{◌≡◌, IfErr, MatchResult, IsErrOf, IfSome, map, string_bytes};
 ghost use Rattle.std.specs.Str.Lines.{lines};
 ghost use Rattle.denial_program.specs.{Answer.{Answers, GivesNoAnswer}, Command.IsCommand};
-ghost use Rattle.denial_program.specs.{Fault.{IsBeforeOutput, IsReadToEnd, TellsUsage}, Run.IsRun};
-ghost use Rattle.denial_program.specs.Text.{answer_text};
+ghost use Rattle.denial_program.specs.{Fault.{IsBeforeOutput, IsReadToEnd, TellsUsage}, Run.IsProgramRun};
+ghost use Rattle.denial_program.specs.Text.{reply_text};
 ghost use Rattle.denial_program.specs.declared.fault.DenialFault.TheVariants.{OutOfMemory};
 
 use crate::answer::write_answer;
@@ -43,7 +43,8 @@ pub fn run_denial<R: BufRead, W: Write, H: Nsec3Hasher>(
     output: &mut W,
 ) -> Result<(), DenialFault>
     // The reply to the command, over the records that the lines give.
-    ensures run { IsRun answer_text (Answers (H.answer hasher.now) (map string_bytes words.now))
+    ensures run { IsProgramRun reply_text (Answers (H.answer hasher.now)
+        (map string_bytes words.now))
         (GivesNoAnswer (H.answer hasher.now) (map string_bytes words.now))
         (R.remaining input.old) (R.remaining input.new) (W.contents output.old)
         (W.contents output.new) result }

@@ -3,7 +3,7 @@ ghost use Rattle.std.specs.Prelude.{◌≡◌, IfErr, IfNone, IfOk, IfSome, OnOk
 ghost use Rattle.domain_base.specs.Scan.{TakesToken};
 ghost use Rattle.domain_names.specs.Text.{NameText};
 ghost use Rattle.domain_any_order.specs.RawRecords.{raw_data};
-ghost use Rattle.denial_program.specs.Listing.{Refuses};
+ghost use Rattle.denial_program.specs.Listing.{RefusesWords};
 
 use crate::arena::store_name;
 use crate::line::{ZoneData, ZoneName, ZoneOctets};
@@ -101,7 +101,7 @@ impl<'a> Store<'a> {
     ) -> Result<ParsedName<'a>, LineError>
         ensures ok { IfOk result (λ name. TakesToken (λ word. NameText word name)
             (S.tokens scanner.old) (S.tokens scanner.new)) }
-        ensures err { IfErr result (Refuses (S.tokens scanner.old)) }
+        ensures err { IfErr result (RefusesWords (S.tokens scanner.old)) }
     {
         let Some(word) = scanner.first_token() else {
             return Err(LineError::Owner(ScanError::EndOfEntry));
@@ -125,7 +125,7 @@ impl<'a> Store<'a> {
     ) -> Result<ParsedName<'a>, LineError>
         ensures ok { IfOk result (λ name. TakesToken (λ word. NameText word name)
             (S.tokens scanner.old) (S.tokens scanner.new)) }
-        ensures err { IfErr result (Refuses (S.tokens scanner.old)) }
+        ensures err { IfErr result (RefusesWords (S.tokens scanner.old)) }
     {
         match self.scan_known(scanner)? {
             Some(owner) => Ok(owner),

@@ -11,8 +11,8 @@ use Rattle.domain_zone.proofs.{PairLemmas.{ascending, irreflexive}, NameLemmas.{
 use Rattle.domain_zone.proofs.WalkLemmas.{any_in, ascending_filter, in_any, after_or, all_both, any_map, filter_none, weaker}
 use Rattle.domain_nsec3.{specs.{Steps.IsListOf, Chain.{ChainConfig, HashAnswer, hash_of, HasCollision, is_chain_name}}, proofs.ChainLemmas.hash_same}
 use Rattle.domain_nsec3.proofs.OwnerLemmas.{sorted}
-use Rattle.domain_alike.specs.Alike.{pair_of, AreAlike, IsAlike, IsFirstAlike, IsFirstPair, IsFirstRefusal, Pair, first_before, first_with, is_hash}
-use Rattle.domain_alike.specs.{Alike.{pair_with, ArePairs, IsHashed}, declared.alike.Alike.Alike}
+use Rattle.domain_alike.specs.Alike.{pair_of, AreAlike, IsAlike, IsFirstAlike, IsFirstPair, IsFirstChainRefusal, Pair, first_before, first_with, is_hash}
+use Rattle.domain_alike.specs.{Alike.{pair_with, ArePairs, HasHash}, declared.alike.Alike.Alike}
 
 -- ---- hashes
 
@@ -51,12 +51,12 @@ module _ (L : List ZoneRecord) (a : Name) (config : ChainConfig) (names : List N
   abbrev first_of : Name → Option Name
   first_of = first_before config.hash names
 
-  module _ (hashed : AllByRecursion (IsHashed config.hash) names) where
+  module _ (hashed : AllByRecursion (HasHash config.hash) names) where
     -- the first name that has the hash is the first of the chain that has it
     one_told : (n : Name) → In n names → (o : Option Name) → first_of n ≡ o → AllByRecursion (IsAlike L a config) (pair_with n o)
     one_told n i None e = tt
     one_told n i (Some f) e =
-        let h = all_in (IsHashed config.hash) names n hashed i in
+        let h = all_in (HasHash config.hash) names n hashed i in
         let test : Name → Bool = λ y. is_hash (hash_of config y) h.0 in
         let lower : List Name = filter (λ y. before y n) names in
         let is : find test lower ≡ Some f = ap (first_with config.hash lower) (sym h.1) ∙ e in
@@ -123,9 +123,9 @@ module _ (L : List ZoneRecord) (a : Name) (config : ChainConfig) (names : List N
     pub pairs_more : (h : Octets) (first : Option Name) (more : List Pair) → hash_of config n ≡ Ok h
         → first ≡ first_with config.hash (take i names) (Ok h) → more ≡ pairs ++ pair_with n first → ArePairs config.hash names (take (i + 1) names) more
     pairs_more h first more e found pushed =
-        grind (arith, common_steps, (take_more names i n l), (all_both (IsHashed config.hash) (take i names) (n ∷ []) old.hashed ((h, e), tt)), front)
+        grind (arith, common_steps, (take_more names i n l), (all_both (HasHash config.hash) (take i names) (n ∷ []) old.hashed ((h, e), tt)), front)
 
-    pub first_refusal : (number : ℕ) → hash_of config n ≡ Err number → IsFirstRefusal L a config number
+    pub first_refusal : (number : ℕ) → hash_of config n ≡ Err number → IsFirstChainRefusal L a config number
     first_refusal number e = record {
       name = n;
       in_chain = of_chain n (in_at names i n at);
@@ -133,7 +133,7 @@ module _ (L : List ZoneRecord) (a : Name) (config : ChainConfig) (names : List N
       first = λ y c b.
           let m = listed y c in
           let low = before_left m.0 y n (one_lowered m.0 y m.2) ∙ b in
-          let known = all_in (IsHashed config.hash) _ m.0 (subst (AllByRecursion _) front old.hashed) (in_filtered (λ k. before k n) names m.0 m.1 low) in
+          let known = all_in (HasHash config.hash) _ m.0 (subst (AllByRecursion _) front old.hashed) (in_filtered (λ k. before k n) names m.0 m.1 low) in
           (known.0, sym (hash_same config.hash m.0 y m.2) ∙ known.1);
     }
 

@@ -51,7 +51,7 @@ IsFirstPair L a config None = ¬ (HasCollision L a config)
 IsFirstPair L a config (Some pair) = IsFirstAlike L a config pair
 
 -- the hasher returns this error for a name of the chain, and a hash for each name before it
-pub record IsFirstRefusal (L : List ZoneRecord) (a : Name) (config : ChainConfig) (number : ℕ)
+pub record IsFirstChainRefusal (L : List ZoneRecord) (a : Name) (config : ChainConfig) (number : ℕ)
     : Type 0 where
   pub name : Name
   pub in_chain : is_chain_name L a config name ≡ true
@@ -91,10 +91,10 @@ abbrev pub pair_with : Name → Option Name → List Pair
 pair_with n None = []
 pair_with n (Some first) = (n, first) ∷ []
 
-abbrev pub IsHashed : Hash → Name → Type 0
-IsHashed hash n = (h : Octets) × (hash_name hash n ≡ Ok h)
+abbrev pub HasHash : Hash → Name → Type 0
+HasHash hash n = (h : Octets) × (hash_name hash n ≡ Ok h)
 
 -- these are the pairs of the names `some`, each of which has a hash
 pub record ArePairs (hash : Hash) (names some : List Name) (pairs : List Pair) : Type 0 where
-  pub hashed : AllByRecursion (IsHashed hash) some
+  pub hashed : AllByRecursion (HasHash hash) some
   pub are : pairs ≡ flat_map (λ n. pair_with n (first_before hash names n)) some

@@ -4,7 +4,7 @@ ghost use Rattle.domain_names.specs.Name.{Name};
 ghost use Rattle.domain_nsec3.specs.{Chain.{Hash, hash_name}, View.config_of};
 ghost use Rattle.domain_records.specs.Order.{IsInOrder};
 ghost use Rattle.domain_borrowed.specs.Data.{zone_of_raw};
-ghost use Rattle.domain_alike.specs.Alike.{pair_of, AreAlike, IsFirstPair, IsFirstRefusal, IsRefusedBy};
+ghost use Rattle.domain_alike.specs.Alike.{pair_of, AreAlike, IsFirstPair, IsFirstChainRefusal, IsRefusedBy};
 ghost use Rattle.domain_alike.specs.Alike.{first_with, AreFirstNames};
 
 use crate::chain_names::chain_names;
@@ -63,7 +63,7 @@ pub fn alike_names<'a, O: Octets, S, H: Nsec3Hasher>(
     requires { IsInOrder (λ n. n) (λ d. d.rtype) sorted.now }
     ensures ok { IfOk result (λ pairs. AreAlike (zone_of_raw sorted.now) apex.now (config_of
         (H.answer hasher.now) config.now) (map pair_of pairs.items)) }
-    ensures err { IfErr result (IsRefusedBy (IsFirstRefusal (zone_of_raw sorted.now) apex.now
+    ensures err { IfErr result (IsRefusedBy (IsFirstChainRefusal (zone_of_raw sorted.now) apex.now
         (config_of (H.answer hasher.now) config.now))) }
 {
     let without_unsigned = config.params.opt_out_flag()
@@ -103,7 +103,7 @@ pub fn first_alike<'a, O: Octets, S, H: Nsec3Hasher>(
     requires { IsInOrder (λ n. n) (λ d. d.rtype) sorted.now }
     ensures ok { IfOk result (λ alike. IsFirstPair (zone_of_raw sorted.now) apex.now (config_of
         (H.answer hasher.now) config.now) (option_map pair_of alike)) }
-    ensures err { IfErr result (IsRefusedBy (IsFirstRefusal (zone_of_raw sorted.now) apex.now
+    ensures err { IfErr result (IsRefusedBy (IsFirstChainRefusal (zone_of_raw sorted.now) apex.now
         (config_of (H.answer hasher.now) config.now))) }
 {
     let pairs = alike_names(alloc, apex, sorted, config, hasher)?;

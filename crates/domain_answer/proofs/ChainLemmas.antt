@@ -18,15 +18,16 @@ use Rattle.domain_nsec.specs.{Chain.{Link, IsChain, is_listed, nsec_lists}, decl
 use Rattle.domain_checker.proofs.MeantLemmas.{apex_exists, choose_by, closest_is, config_with, covered_encloser, covered_no_owner, covered_occluded}
 use Rattle.domain_checker.proofs.MeantLemmas.{covered_under, covered_unowned, cut_at, cut_same, either_found, ends, list_says, matched_high, matched_low}
 use Rattle.domain_checker.proofs.MeantLemmas.{matched_same, owner_low, owner_owns, paired_with_some, same_count, some_link, strictly_trans, top_occluder}
-use Rattle.domain_checker.{proofs.MeantLemmas.type_at, specs.{Reading.{is_at_cut, is_cover, is_match}, Verdict.{ArePaired, HasProof, IsAlike}}}
+use Rattle.domain_checker.{proofs.MeantLemmas.type_at, specs.{Reading.{is_at_cut, is_cover, is_match}, Verdict.{ArePaired, HasProof, IsSameLink}}}
 use Rattle.domain_checker.specs.Verdict.{NsecChainsAreKnown}
 use Rattle.domain_checker.specs.Verdict.{NsecFacts, has_match_or_cover, is_inside}
 use Rattle.domain_answer.proofs.AlikeLemmas.{is_usable_alike, proved_alike, reading_alike}
 use Rattle.domain_answer.proofs.{EncloserLemmas.{expanded_alike, owned_alike, closest_last, cut_owns, none_above}}
 use Rattle.domain_answer.proofs.EncloserLemmas.{asked_bound}
-use Rattle.domain_answer.{proofs.EncloserLemmas.{parent_below, strictly_enclosed, wildcard_low, highest_of, encloser_less, all_told}, specs.Reading.IsFound}
+use Rattle.domain_answer.{proofs.EncloserLemmas.{parent_below, strictly_enclosed, wildcard_low, highest_of, encloser_less, all_told}, specs.Reading.IsNameFound}
 use Rattle.domain_answer.specs.Reading.{IsAnswered, LeavesOutBelowDname, is_missing, knows_wildcard, proved_answer, CountsWithin, RestsOn, cover_answer}
-use Rattle.domain_answer.specs.Reading.{listed_answer, listed_both, match_answer, reading, tells_occluded, tells_occluder, wildcard_answer, wildcard_both}
+use Rattle.domain_answer.specs.Reading.{listed_answer, listed_both, match_answer, answer_of_list, tells_occluded, tells_occluder, wildcard_answer}
+use Rattle.domain_answer.specs.Reading.{wildcard_both}
 use Rattle.domain_answer.specs.{Reading.{IsNameAnswer, absent_answer, name_answer, is_usable, usable, usable_reading}, ZoneAnswer.{asked_type, is_of_child}}
 use Rattle.domain_answer.specs.ZoneAnswer.{is_meta_type}
 use Rattle.domain_answer.specs.ZoneAnswer.{nxname, owned_answer, asterisk, encloser}
@@ -233,15 +234,16 @@ module _ {L : List ZoneRecord} {a : Name} {assume : Bool} {links : List Link} (f
     list_proved = list_says facts listed among x (listed_both a listed x t) known of_match of_cover ∙ turned (has_match_or_cover listed x) known NotProven
 
   -- what they answer is what they prove, of every name and type
-  reading_of : (listed : List Link) → All (Contains links) listed → (x : Name) (t : ℕ) → t < 65536 → reading a listed x t ≡ proved_answer L a assume listed x t
+  reading_of : (listed : List Link) → All (Contains links) listed → (x : Name) (t : ℕ) → t < 65536
+      → answer_of_list a listed x t ≡ proved_answer L a assume listed x t
   reading_of listed among x t b =
       read_by (is_at_or_below x a) (is_at_parent a x t) (is_meta_type t) (listed_answer a listed x t) _
       (inside_answer L a assume x t (highest_occluder L a x))
       (λ low apart asks. list_proved listed (stands_all links listed among) x low t b ∙ rw (low, apart, asks))
 
-pub reading_proved : NsecChainsAreKnown → (listed : List Link) (a x : Name) (t : ℕ) → t < 65536 → IsAnswered listed a x t (reading a listed x t)
+pub reading_proved : NsecChainsAreKnown → (listed : List Link) (a x : Name) (t : ℕ) → t < 65536 → IsAnswered listed a x t (answer_of_list a listed x t)
 reading_proved knows listed a x t b L config links leaves order chain among =
-    let some = paired_with_some IsAlike links listed among in
+    let some = paired_with_some IsSameLink links listed among in
     reading_alike a t listed some.some some.alike x
     ∙ reading_of (facts_leaving knows L a config links leaves order chain) some.some (All-from_recursion (Contains links) some.some some.among) x t b
     ∙ sym (proved_alike a t listed some.some some.alike L config.assume_dnskeys_will_be_added x)
@@ -265,7 +267,7 @@ usable_at {L} {a} {assume} {links} facts order k i =
     (next_after (unoccluded_owners true L a) a (k.owner, k.next) (owners_ascend true L a order) there) (ap not (child_at facts k i))
 
 -- so does one that is like it
-usable_paired : (a : Name) (ks ls : List Link) → ArePaired IsAlike ks ls → AllByRecursion (λ l. is_usable a l ≡ true) ls → usable a ks ≡ ks
+usable_paired : (a : Name) (ks ls : List Link) → ArePaired IsSameLink ks ls → AllByRecursion (λ l. is_usable a l ≡ true) ls → usable a ks ≡ ks
 usable_paired a [] [] h all = refl
 usable_paired a [] (l ∷ ls) h all = absurd h
 usable_paired a (k ∷ ks) [] h all = absurd h
@@ -273,11 +275,12 @@ usable_paired a (k ∷ ks) (l ∷ ls) h all = grind (arith, common_steps, is_usa
 
 pub usable_proved : NsecChainsAreKnown → (listed : List Link) (a x : Name) (t : ℕ) → t < 65536 → IsAnswered listed a x t (usable_reading a listed x t)
 usable_proved knows listed a x t b L config links leaves order chain among =
-    let some = paired_with_some IsAlike links listed among in
+    let some = paired_with_some IsSameLink links listed among in
     let facts = facts_leaving knows L a config links leaves order chain in
     let stands = stands_all links some.some (All-from_recursion (Contains links) some.some some.among) in
     let all = all_from_in (λ l. is_usable a l ≡ true) some.some (λ l i. let s = stands l i in usable_at facts order l (in_at links s.place l s.there)) in
-    ap (λ ls. reading a ls x t) (usable_paired a listed some.some some.alike all) ∙ reading_proved knows listed a x t b L config links leaves order chain among
+    ap (λ ls. answer_of_list a ls x t) (usable_paired a listed some.some some.alike all)
+    ∙ reading_proved knows listed a x t b L config links leaves order chain among
 
 -- ---- of any records at all: those that an answer rests on are there, and what it counts is within the name
 
@@ -315,7 +318,7 @@ module _ (a : Name) (listed : List Link) where
         (λ k f. let c = (find_some (is_cover a x) listed k f).1 in
         cover_fits k (cover_proves x k f) (and_parts (covers before k.owner k.next x) (is_inside a k) c).0)
 
-    pub reading_fits : Fits (reading a listed x t)
+    pub reading_fits : Fits (answer_of_list a listed x t)
     reading_fits = grind (arith, common_steps, listed_fits)
 
 -- ---- what one pass finds
@@ -327,18 +330,18 @@ find_usable a p (k ∷ ks) = grind (arith, common_steps, (find_usable a p ks))
 
 -- of a name at or below the apex the list says what is said of what was found
 pub found_reads : (a : Name) (listed : List Link) (x : Name) (t : ℕ) → is_at_or_below x a ≡ true → is_at_parent a x t ≡ false → is_meta_type t ≡ false
-    → (matched covered : Option Link) → IsFound a listed x matched covered → reading a listed x t ≡ listed_both a listed x t matched covered
+    → (matched covered : Option Link) → IsNameFound a listed x matched covered → answer_of_list a listed x t ≡ listed_both a listed x t matched covered
 found_reads a listed x t low apart asks None covered found = grind (arith, common_steps)
 found_reads a listed x t low apart asks (Some k) covered found = grind (arith, common_steps)
 
 -- and of a wildcard
-pub found_wild : (a : Name) (listed : List Link) (n : ℕ) (w : Name) (t : ℕ) (matched covered : Option Link) → IsFound a listed w matched covered
+pub found_wild : (a : Name) (listed : List Link) (n : ℕ) (w : Name) (t : ℕ) (matched covered : Option Link) → IsNameFound a listed w matched covered
     → wildcard_both a n w t matched covered ≡ wildcard_answer a listed n w t
 found_wild a listed n w t None covered found = grind (arith, common_steps)
 found_wild a listed n w t (Some k) covered found = grind (arith, common_steps)
 
 -- a cover that was found covers the name
-pub found_covers : (a : Name) (listed : List Link) (x : Name) (k : Link) → IsFound a listed x None (Some k) → covers before k.owner k.next x ≡ true
+pub found_covers : (a : Name) (listed : List Link) (x : Name) (k : Link) → IsNameFound a listed x None (Some k) → covers before k.owner k.next x ≡ true
 found_covers a listed x k found = grind (arith, common_steps, (find_some (is_cover a x) listed k))
 
 -- ---- what a record says of its owner, or of what is below it, rests on no wildcard; what is said of a wildcard does

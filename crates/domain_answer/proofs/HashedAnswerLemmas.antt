@@ -26,7 +26,7 @@ use Rattle.domain_answer.proofs.EncloserLemmas.{asked_bound}
 use Rattle.domain_answer.proofs.EncloserLemmas.{last_count, all_told, below_strictly, cut_occludes, cut_owns, name_of, none_above, strictly_enclosed}
 use Rattle.domain_answer.proofs.{EncloserLemmas.{strictly_other, strictly_same, highest_of, owner_exists}, ChainLemmas.{usable_proved, reading_fits}}
 use Rattle.domain_answer.{proofs.AlikeLemmas.{hashed_proved_alike, read_alike, expansion_alike, proved_expansion_alike}, specs.HashedReading.missing_closer}
-use Rattle.domain_answer.specs.HashedReading.{ExpansionRestsOn, IsExpansionAnswered, IsExpansionRead, closer_name, closer_told, is_expanded, AreAskedAlone}
+use Rattle.domain_answer.specs.HashedReading.{ExpansionRestsOn, IsExpansionAnswered, IsExpansionRead, closer_name, closer_answer, is_expanded, AreAskedAlone}
 use Rattle.domain_answer.specs.HashedReading.{IsHashedAnswered, hashed_proved_answer, needs_wildcard, tells_encloser, tells_wildcard, IsReadOn, IsTold}
 use Rattle.domain_answer.specs.HashedReading.{IsWildcardRead, encloser_answer, found_answer, next_answer, own_answer, IsHashedRead, hashed_encloser}
 use Rattle.domain_answer.specs.HashedReading.{hashed_inside_answer, hashed_wildcard_answer, hashed_exists, hashed_zone_answer, proved_expansion, HasCloserProof}
@@ -380,7 +380,7 @@ module _ {L : List ZoneRecord} {a : Name} {config : ChainConfig} {links : List H
   told_proved answer read =
       let y = closer_name n x in
       let R = chain_records a config listed in
-      by_told R y (closer_told n) answer (λ v. v ≡ proved_expansion L a config listed x n) read
+      by_told R y (closer_answer n) answer (λ v. v ≡ proved_expansion L a config listed x n) read
       (λ v known k i matches there. rw ((match_is_of_name facts y v low (alone_by L a config y u v alone known) k (among k i) matches).exists))
       (λ v known k i covers there.
       let denial = cover_denies facts y v low (alone_by L a config y u v alone known) k (among k i) covers in
@@ -401,7 +401,7 @@ expansion_proved knows R x n answer e read = λ L config links value hash parame
 module _ (R : HashedRecords) (x : Name) (n : ℕ) (answer : Answer) (read : IsExpansionRead R x n answer) where
   pub expansion_rests : ExpansionRestsOn R x n answer
   expansion_rests =
-      by_told R (closer_name n x) (closer_told n) answer (ExpansionRestsOn R x n) read (λ v known k i match there. tt)
+      by_told R (closer_name n x) (closer_answer n) answer (ExpansionRestsOn R x n) read (λ v known k i match there. tt)
       (λ v known k i cover there. grind (arith, common_steps)) (λ unmatched uncovered. tt)
 
   pub expansion_counts : is_expanded R.apex x n ≡ true → CountsWithin (length x) answer

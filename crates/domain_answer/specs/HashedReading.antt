@@ -8,7 +8,7 @@ use Rattle.domain_zone.specs.{Enclosers.exists_over, Zone.{ZoneRecord, is_zone_c
 use Rattle.domain_nsec3.specs.{Chain.{ChainConfig, hash_name, nsec3_lists, original_owners, HashedLink, IsHashedChain}, Meaning.{AreAlone, IsAlone}}
 use Rattle.domain_checker.specs.HashedVerdict.{is_below_chain_cut, IsFirstRefusal, is_covered, is_matched, next_closer, IsFirstMatched, HashedRecords}
 use Rattle.domain_checker.specs.{HashedVerdict.{first_cover, first_match, chain_records}, Verdict.{closest_encloser, IsHashedAlike, IsPairedIn}}
-use Rattle.domain_checker.specs.HashedReading.{found_cover, found_match, Encloser, encloser_is_cut, IsEncloser, IsFoundEncloser, IsLookedUp}
+use Rattle.domain_checker.specs.HashedReading.{found_hash_cover, found_hash_match, Encloser, encloser_is_cut, IsEncloser, IsFoundEncloser, IsLookedUp}
 use Rattle.domain_checker.specs.declared.nsec3.Nsec3Found.{Nsec3Found}
 use Rattle.domain_answer.specs.ZoneAnswer.{expanded_answer, owned_answer, types_answer, wildcard_types_answer, is_at_parent, is_meta_type, wildcard_below}
 use Rattle.domain_answer.specs.declared.answer.Answer.{Answer, TheVariants.{OutsideZone, AtParent, Referral, Redirected, NameError, MayBeUnsigned}}
@@ -130,7 +130,7 @@ pub record IsTold (R : HashedRecords) (y : Name)
 -- the match and the cover that were found for a name
 abbrev pub hashed_finding_of : {O N : Type 0} → (N → Name) → Nsec3Found O N
     → Option HashedLink × Option HashedLink
-hashed_finding_of labels f = (found_match labels f, found_cover labels f)
+hashed_finding_of labels f = (found_hash_match labels f, found_hash_cover labels f)
 
 abbrev pub AreLookedUp : HashedRecords → Name → Option HashedLink × Option HashedLink → Type 0
 AreLookedUp R y f = IsLookedUp R (wire_of (lowered y)) f.0 f.1
@@ -276,13 +276,13 @@ abbrev pub closer_name : ℕ → Name → Name
 closer_name n x = last_labels (n + 1) x
 
 -- what the first match of that name says, or else its first cover
-abbrev pub closer_told : ℕ → Option HashedLink → Option HashedLink → Answer
-closer_told n (Some k) covering = NotProven
-closer_told n None covering = next_answer n covering
+abbrev pub closer_answer : ℕ → Option HashedLink → Option HashedLink → Answer
+closer_answer n (Some k) covering = NotProven
+closer_answer n None covering = next_answer n covering
 
 -- the answer is what the list says of the next closer name
 abbrev pub IsExpansionRead : HashedRecords → Name → ℕ → Answer → Type 0
-IsExpansionRead R x n = IsTold R (closer_name n x) (closer_told n)
+IsExpansionRead R x n = IsTold R (closer_name n x) (closer_answer n)
 
 -- what holds of a next closer name that does not exist: if the chain has the opt-out flag, it may
 -- be an unsigned delegation

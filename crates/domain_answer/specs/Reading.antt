@@ -5,7 +5,7 @@ use Rattle.domain_names.specs.Name.{before, Name, is_at_or_below, is_strictly_be
 use Rattle.domain_zone.specs.{Enclosers.{longer, shared}, Zone.{ZoneRecord, OwnersNeverDescend, is_unoccluded, unoccluded_owners, has_type, is_zone_cut}}
 use Rattle.domain_zone.specs.Zone.{records_of}
 use Rattle.domain_nsec.specs.{Chain.{Link, IsChain, as_link}, declared.config.GenerateNsecConfig.GenerateNsecConfig}
-use Rattle.domain_checker.specs.{Reading.{is_cover, is_match, is_at_cut}, Verdict.{IsAlike, IsPairedIn, has_match_or_cover, HasProof}}
+use Rattle.domain_checker.specs.{Reading.{is_cover, is_match, is_at_cut}, Verdict.{IsSameLink, IsPairedIn, has_match_or_cover, HasProof}}
 use Rattle.domain_answer.specs.declared.{found.{NsecCover.NsecCover, NsecFound.{NsecFound, TheVariants.{Match, NoMatch}}}, answer.Answer.Answer}
 use Rattle.domain_answer.specs.declared.answer.Answer.TheVariants.{OutsideZone, AtParent, Referral, Redirected, NoData, Wildcard, WildcardAlias, WildcardNoData}
 use Rattle.domain_answer.specs.declared.answer.Answer.TheVariants.{NameError, NoCloserName, NotProven, MayBeUnsigned, TooManyIterations}
@@ -61,19 +61,19 @@ found_cover labels (NoMatch cover) = option_map (cover_link labels) cover
 abbrev pub finding_of : {O N : Type 0} → (N → Name) → NsecFound O N → Option Link × Option Link
 finding_of labels f = (found_match labels f, found_cover labels f)
 
-abbrev pub IsCovered : {O N : Type 0} → (N → Name) → Name → NsecFound O N → Type 0
-IsCovered labels x (Match k) = Unit {0}
-IsCovered labels x (NoMatch cover) = IfSome cover (IsSharing labels x)
+abbrev pub CoverShares : {O N : Type 0} → (N → Name) → Name → NsecFound O N → Type 0
+CoverShares labels x (Match k) = Unit {0}
+CoverShares labels x (NoMatch cover) = IfSome cover (IsSharing labels x)
 
 -- the first match of x or, if there is none, the first cover
-pub record IsFound (a : Name) (listed : List Link) (x : Name) (matched covered : Option Link)
+pub record IsNameFound (a : Name) (listed : List Link) (x : Name) (matched covered : Option Link)
     : Type 0 where
   pub matching : matched ≡ find (is_match a x) listed
   pub covering : matched ≡ None → covered ≡ find (is_cover a x) listed
 
 -- the same as a pair
 abbrev pub AreFound : Name → List Link → Name → Option Link × Option Link → Type 0
-AreFound a listed x f = IsFound a listed x f.0 f.1
+AreFound a listed x f = IsNameFound a listed x f.0 f.1
 
 -- ---- What NSEC records alone answer (RFC 4035, section 5.4; RFC 6840, sections 4.1, 4.3 and 4.4).
 
@@ -134,15 +134,15 @@ listed_answer a listed x t =
     listed_both a listed x t (find (is_match a x) listed) (find (is_cover a x) listed)
 
 -- what the list says of any name
-abbrev pub reading : Name → List Link → Name → ℕ → Answer
-reading a listed x t =
+abbrev pub answer_of_list : Name → List Link → Name → ℕ → Answer
+answer_of_list a listed x t =
     if not (is_at_or_below x a) then OutsideZone else
     (if is_at_parent a x t then AtParent else
     (if is_meta_type t then NotProven else listed_answer a listed x t))
 
 -- what the records of the list that count say of any name
 abbrev pub usable_reading : Name → List Link → Name → ℕ → Answer
-usable_reading a listed x t = reading a (usable a listed) x t
+usable_reading a listed x t = answer_of_list a (usable a listed) x t
 
 -- ---- before a wildcard is looked up
 
@@ -204,7 +204,7 @@ abbrev pub IsAnswered : List Link → Name → Name → ℕ → Answer → Type 
 IsAnswered listed a x t answer =
     (L : List ZoneRecord) (config : GenerateNsecConfig) (links : List Link)
     → LeavesOutBelowDname L a config.occlude_below_dname → OwnersNeverDescend L
-    → IsChain L a config links → All (IsPairedIn IsAlike links) listed
+    → IsChain L a config links → All (IsPairedIn IsSameLink links) listed
     → answer ≡ proved_answer L a config.assume_dnskeys_will_be_added listed x t
 
 -- a record that is not ignored matches or covers x, and one matches or covers the wildcard below

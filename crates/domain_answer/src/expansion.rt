@@ -1,8 +1,8 @@
 //! What NSEC3 records prove about a name whose records were expanded from a wildcard.
 ghost use Rattle.std.specs.Prelude.{◌≡◌, IsErrOf};
 ghost use Rattle.domain_hasher.specs.declared.error.Nsec3HashError.TheVariants as hash_error;
-ghost use Rattle.domain_checker.specs.{HashedReading.{found_cover, found_match}, HashedVerdict.hashed_records};
-ghost use Rattle.domain_answer.specs.{HashedReading.{closer_told, is_expanded}, Judged.IsExpansionJudged};
+ghost use Rattle.domain_checker.specs.{HashedReading.{found_hash_cover, found_hash_match}, HashedVerdict.hashed_records};
+ghost use Rattle.domain_answer.specs.{HashedReading.{closer_answer, is_expanded}, Judged.IsExpansionJudged};
 
 use crate::Answer;
 use crate::nsec3::{next_answer, opt_out_of};
@@ -24,12 +24,12 @@ pub(crate) fn is_expanded<A: ToName, M: ToName>(apex: &A, name: &M, labels: usiz
 
 /// Returns what the record that was found for the next closer name says of a name that was expanded
 /// from the wildcard right below its last `labels` labels.
-pub(crate) fn closer_told<O: Octets, N: ToName>(
+pub(crate) fn closer_answer<O: Octets, N: ToName>(
     labels: usize,
     found: &Nsec3Found<'_, O, N>,
 ) -> Answer
-    ensures { result ≡ closer_told labels (found_match N.labels found.now)
-        (found_cover N.labels found.now) }
+    ensures { result ≡ closer_answer labels (found_hash_match N.labels found.now)
+        (found_hash_cover N.labels found.now) }
 {
     match found {
         Nsec3Found::Match(_) => Answer::NotProven,
@@ -92,5 +92,5 @@ pub fn judge_nsec3_expansion<A: ToName, O: Octets, N: ToName, M: ToName, H: Nsec
     // The count of labels is a usize, and a smaller number plus one is too.
     let _count = name.count_labels();
     let closer = name.last_labels(labels + 1);
-    Ok(closer_told(labels, &find_nsec3(alloc, apex, records, &closer, hasher)?))
+    Ok(closer_answer(labels, &find_nsec3(alloc, apex, records, &closer, hasher)?))
 }

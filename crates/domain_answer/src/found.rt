@@ -3,7 +3,7 @@ ghost use Rattle.std.specs.{Prelude.{◌≡◌, ◌↔◌, None, IfSome, IsTrue}
 ghost use Rattle.domain_nsec.specs.Chain.{as_link, links_of};
 ghost use Rattle.domain_answer.specs.Reading.{cover_link, found_cover, found_match, is_usable, usable};
 ghost use Rattle.domain_answer.specs.Reading.{is_usable_cover, is_usable_match};
-ghost use Rattle.domain_answer.specs.Reading.{IsCovered, IsFound, IsSharing};
+ghost use Rattle.domain_answer.specs.Reading.{CoverShares, IsNameFound, IsSharing};
 
 use domain_base::{Rtype, ToName};
 use domain_checker::{NsecRr, is_at_cut, is_before, is_match, shared_if_covered};
@@ -95,10 +95,10 @@ pub fn find_nsec<'a, A: ToName, O: Octets, N: ToName, M: ToName>(
     chain: &'a [NsecRr<O, N>],
     name: &M,
 ) -> NsecFound<'a, O, N>
-    ensures found { IsFound (A.labels apex.now)
+    ensures found { IsNameFound (A.labels apex.now)
         (usable (A.labels apex.now) (links_of N.labels chain.now)) (M.labels name.now)
         (found_match N.labels result) (found_cover N.labels result) }
-    ensures shared { IsCovered N.labels (M.labels name.now) result }
+    ensures shared { CoverShares N.labels (M.labels name.now) result }
 {
     let mut cover = None;
     for listed in chain {

@@ -10,7 +10,7 @@ ghost use Rattle.domain_answer.specs.Judged.{IsHashedJudged, IsJudgedWithin};
 ghost use Rattle.domain_answer.specs.ZoneAnswer.{wildcard_below};
 ghost use Rattle.domain_hasher.specs.declared.error.Nsec3HashError.TheVariants as hash_error;
 
-use crate::expansion::{closer_told, is_expanded};
+use crate::expansion::{closer_answer, is_expanded};
 use crate::nsec::is_at_parent;
 use crate::nsec3::{found_answer, wildcard_told};
 use crate::of_types::is_meta_type;
@@ -270,7 +270,7 @@ pub fn judge_nsec3_expansion_with_witness<'a, O: Octets, N: ToName, M: ToName, H
     let closer = name.last_labels(labels + 1);
     let found = index.find_name(alloc, &closer, hasher)?;
     Ok(Nsec3Expansion {
-        answer: closer_told(labels, &found),
+        answer: closer_answer(labels, &found),
         of_next_closer: Some(found),
     })
 }

@@ -8,7 +8,7 @@ ghost use Rattle.domain_zone.specs.Zone.{has_type, is_occluded, is_unoccluded, i
 ghost use Rattle.domain_zone.specs.Zone.{OwnersNeverDescend, ZoneRecord};
 ghost use Rattle.domain_nsec.specs.{Chain.{IsChain, Link}, declared.config.GenerateNsecConfig.GenerateNsecConfig};
 ghost use Rattle.domain_nsec3.specs.{Chain.{HashedLink, IsHashedChain, ChainConfig}, Meaning.IsAlone};
-ghost use Rattle.domain_checker.specs.Verdict.{ArePaired, IsAlike, IsHashedAlike};
+ghost use Rattle.domain_checker.specs.Verdict.{ArePaired, IsSameLink, IsHashedAlike};
 ghost use Rattle.domain_checker.specs.HashedVerdict.{HashedRecords, with_links};
 ghost use Rattle.domain_answer.specs.HashedReading.{closer_name, is_expanded, missing_closer, proved_expansion};
 ghost use Rattle.domain_answer.specs.HashedReading.{ExpansionRestsOn, IsExpansionAnswered, IsExpansionRead};
@@ -16,7 +16,7 @@ ghost use Rattle.domain_answer.specs.HashedReading.{hashed_proved_answer, AreAsk
 ghost use Rattle.domain_answer.specs.HashedReading.{IsHashedAnswered, IsHashedRead, hashed_encloser};
 ghost use Rattle.domain_answer.specs.HashedReading.{hashed_exists, hashed_zone_answer, is_of_one_chain};
 ghost use Rattle.domain_answer.specs.Reading.{IsSo, proved_answer, CountsWithin, IsAnswered};
-ghost use Rattle.domain_answer.specs.{Reading.{LeavesOutBelowDname, RestsOn, reading, usable_reading}, ZoneAnswer.{is_at_parent, is_meta_type}};
+ghost use Rattle.domain_answer.specs.{Reading.{LeavesOutBelowDname, RestsOn, answer_of_list, usable_reading}, ZoneAnswer.{is_at_parent, is_meta_type}};
 ghost use Rattle.domain_answer.specs.ZoneAnswer.{name_exists, wildcard_below, zone_answer};
 ghost use Rattle.domain_answer.specs.HashedReading.{IsLeftOpen};
 ghost use Rattle.domain_answer.specs.declared.answer.Answer.{Answer, TheVariants.{NoCloserName, NotProven}};
@@ -41,13 +41,13 @@ pub fn one_kind_of_answer_holds()
 /// labels that it counts are labels of the name.
 pub fn readings_are_proved()
     ensures zone { (listed : List Link) (a x : Name) (t : ℕ) → t < 65536
-        → IsAnswered listed a x t (reading a listed x t) }
+        → IsAnswered listed a x t (answer_of_list a listed x t) }
     ensures usable { (listed : List Link) (a x : Name) (t : ℕ) → t < 65536
         → IsAnswered listed a x t (usable_reading a listed x t) }
     ensures proof { (listed : List Link) (a x : Name) (t : ℕ)
-        → RestsOn listed a x (reading a listed x t) }
+        → RestsOn listed a x (answer_of_list a listed x t) }
     ensures within { (listed : List Link) (a x : Name) (t : ℕ)
-        → CountsWithin (length x) (reading a listed x t) }
+        → CountsWithin (length x) (answer_of_list a listed x t) }
 {
     chains_are_known();
 }
@@ -57,9 +57,10 @@ pub fn readings_are_proved()
 #[tactic(auto, using(crate::proofs::AlikeLemmas::reading_alike, crate::proofs::AlikeLemmas::usable_alike))]
 pub fn readings_ignore_case_and_ttl()
     ensures all { (listed other : List Link) (a x : Name) (t : ℕ)
-        → ArePaired IsAlike listed other → reading a listed x t ≡ reading a other x t }
+        → ArePaired IsSameLink listed other → answer_of_list a listed x t ≡ answer_of_list
+        a other x t }
     ensures usable { (listed other : List Link) (a x : Name) (t : ℕ)
-        → ArePaired IsAlike listed other
+        → ArePaired IsSameLink listed other
         → usable_reading a listed x t ≡ usable_reading a other x t }
 {}
 

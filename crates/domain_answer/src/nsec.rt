@@ -3,9 +3,9 @@ ghost use Rattle.std.specs.{Prelude.{◌≡◌, List, true}, Option.option_map};
 ghost use Rattle.domain_names.specs.Name.{is_at_or_below};
 ghost use Rattle.domain_nsec.specs.Chain.{as_link, links_of, Link};
 ghost use Rattle.domain_answer.specs.{Judged.{AreNsecWitnesses, IsJudged}, ZoneAnswer.is_at_parent};
-ghost use Rattle.domain_answer.specs.Reading.{finding_of, found_cover, found_match, reading};
+ghost use Rattle.domain_answer.specs.Reading.{finding_of, found_cover, found_match, answer_of_list};
 ghost use Rattle.domain_answer.specs.Reading.{tells_occluded, usable};
-ghost use Rattle.domain_answer.specs.Reading.{wildcard_answer, wildcard_both, IsCovered, IsFound};
+ghost use Rattle.domain_answer.specs.Reading.{wildcard_answer, wildcard_both, CoverShares, IsNameFound};
 ghost use Rattle.domain_answer.specs.Reading.{IsNameAnswer};
 
 use crate::found::{NsecFound, find_nsec};
@@ -102,10 +102,10 @@ fn name_told<A: ToName, O: Octets, N: ToName, M: ToName>(
     rtype: Rtype,
 ) -> NameAnswer
     requires low { is_at_or_below (M.labels name.now) (A.labels apex.now) ≡ true }
-    requires shared { IsCovered N.labels (M.labels name.now) found.now }
-    ensures { (listed : List Link) → IsFound (A.labels apex.now) listed (M.labels name.now)
+    requires shared { CoverShares N.labels (M.labels name.now) found.now }
+    ensures { (listed : List Link) → IsNameFound (A.labels apex.now) listed (M.labels name.now)
         (found_match N.labels found.now) (found_cover N.labels found.now)
-        → IsNameAnswer (reading (A.labels apex.now) listed (M.labels name.now) rtype)
+        → IsNameAnswer (answer_of_list (A.labels apex.now) listed (M.labels name.now) rtype)
         (A.labels apex.now) listed (M.labels name.now) rtype result }
 {
     if is_at_parent(apex, name, rtype) {
@@ -148,7 +148,7 @@ pub fn judge_name<A: ToName, O: Octets, N: ToName, M: ToName>(
     name: &M,
     rtype: Rtype,
 ) -> NameAnswer
-    ensures { IsNameAnswer (reading (A.labels apex.now)
+    ensures { IsNameAnswer (answer_of_list (A.labels apex.now)
         (usable (A.labels apex.now) (links_of N.labels chain.now)) (M.labels name.now) rtype)
         (A.labels apex.now) (usable (A.labels apex.now) (links_of N.labels chain.now))
         (M.labels name.now) rtype result }

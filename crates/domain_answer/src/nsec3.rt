@@ -2,7 +2,7 @@
 ghost use Rattle.std.specs.{Option.option_map, Prelude.{◌≡◌, ◌<◌, Err, length, IfErr, IfOk, IsErrOf}};
 ghost use Rattle.domain_names.specs.Name.{last_labels};
 ghost use Rattle.domain_nsec3.specs.{Chain.{hash_name, IsNoHash}, View.as_hashed_link};
-ghost use Rattle.domain_checker.specs.HashedReading.{encloser_of, found_cover, found_match};
+ghost use Rattle.domain_checker.specs.HashedReading.{encloser_of, found_hash_cover, found_hash_match};
 ghost use Rattle.domain_checker.specs.HashedVerdict.{hash_with, hashed_records};
 ghost use Rattle.domain_answer.specs.{HashedReading.{answer_by, flag_of, found_answer, next_by, wildcard_told, IsWildcardRead}, Judged.IsHashedJudged};
 ghost use Rattle.domain_answer.specs.ZoneAnswer.{wildcard_below};
@@ -93,8 +93,8 @@ pub(crate) fn wildcard_told<O: Octets, N: ToName>(
     rtype: Rtype,
     found: &Nsec3Found<'_, O, N>,
 ) -> Answer
-    ensures { result ≡ wildcard_told count rtype (found_match N.labels found.now)
-        (found_cover N.labels found.now) }
+    ensures { result ≡ wildcard_told count rtype (found_hash_match N.labels found.now)
+        (found_hash_cover N.labels found.now) }
 {
     match found {
         Nsec3Found::Match(listed) => {

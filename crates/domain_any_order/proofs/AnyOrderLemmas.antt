@@ -3,7 +3,7 @@ use Rattle.std.proofs.{Common.{arith, List}, lemmas.Grind.common_steps}
 use Rattle.domain_record.specs.declared.record.Record.{Record}
 use Rattle.domain_names.specs.Name.{Name}
 use Rattle.domain_nsec.specs.{declared.config.GenerateNsecConfig.GenerateNsecConfig, Chain.IsFirstFault}
-use Rattle.domain_nsec3.specs.Chain.{ChainConfig, IsFirstFault as IsFirstHashedFault}
+use Rattle.domain_nsec3.specs.Chain.{ChainConfig, IsFirstHashedFault}
 use Rattle.domain_any_order.specs.AnyOrder.{Sorts, OfZone, HasNoChain, HasNoHashedChain, View, chain_error_of, zone_seen}
 use Rattle.domain_records.specs.Order.{IsOneClass}
 use Rattle.domain_groups.specs.declared.error.SigningError.{SigningError}

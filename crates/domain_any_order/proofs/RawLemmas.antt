@@ -8,14 +8,14 @@ use Rattle.domain_rdata.specs.{Zone.{minimum_of, rtype_of}, declared.zone_record
 use Rattle.domain_records.specs.Order.{IsOneClass}
 use Rattle.domain_groups.specs.declared.error.SigningError.{SigningError, TheVariants.OutOfMemory as NoRoom}
 use Rattle.domain_zone.specs.Zone.{zone_of, ZoneRecord}
-use Rattle.domain_borrowed.{proofs.DataLemmas.minimum_last, specs.Data.{RawRecord, data_cmp as raw_cmp, data_cmp_total as raw_cmp_total}}
-use Rattle.domain_borrowed.specs.Data.{minimum_of as raw_minimum, zone_of_raw}
+use Rattle.domain_borrowed.{proofs.DataLemmas.minimum_last, specs.Data.{RawRecord, raw_cmp, raw_cmp_total}}
+use Rattle.domain_borrowed.specs.Data.{raw_minimum, zone_of_raw}
 use Rattle.domain_any_order.specs.RawRecords.{HaveOneChain, TellMinima, TellsMinimum, raw_data, raw_record, raw_view, zone_view}
 use Rattle.domain_any_order.specs.AnyOrder.{HasNone, IsWholeHashedChain, OfZone}
 use Rattle.domain_any_order.specs.declared.error.ChainError.{ChainError, TheVariants.{MixedClasses, Sort, Signing, OutOfMemory}}
 use Rattle.domain_any_order.proofs.MappedLemmas.{sets_back}
 use Rattle.domain_nsec.specs.Chain.{IsChain, IsFaultless, IsFirstFault}
-use Rattle.domain_nsec3.specs.Chain.{IsReady, IsFirstFault as IsFirstHashedFault}
+use Rattle.domain_nsec3.specs.Chain.{IsReady, IsFirstHashedFault}
 
 module _ {O N : Type 0} (octets : O → Octets) (labels : N → Name) where
   abbrev see : Record N (ZoneRecordData O N) → RawRecord

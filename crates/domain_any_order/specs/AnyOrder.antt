@@ -7,7 +7,7 @@ use Rattle.domain_groups.specs.declared.error.SigningError.TheVariants as signin
 use Rattle.domain_names.specs.Name.{Name}
 use Rattle.domain_nsec.specs.{Chain.{Link, IsChain, IsFaultless, IsFirstFault}, declared.config.GenerateNsecConfig.GenerateNsecConfig}
 use Rattle.domain_nsec3.specs.Chain.{HashedLink, IsChainParam, IsHashedChain, ParamRecord, ChainConfig, IsReady}
-use Rattle.domain_nsec3.specs.{Chain.IsFirstFault as IsFirstHashedFault, declared.config.Nsec3ParamTtlMode.Nsec3ParamTtlMode}
+use Rattle.domain_nsec3.specs.{Chain.IsFirstHashedFault, declared.config.Nsec3ParamTtlMode.Nsec3ParamTtlMode}
 use Rattle.domain_zone.specs.Zone.{zone_of, ZoneRecord}
 use Rattle.domain_any_order.specs.declared.error.ChainError.{ChainError, TheVariants.{MixedClasses, Sort, Signing, OutOfMemory}}
 

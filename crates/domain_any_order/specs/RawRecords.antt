@@ -4,11 +4,11 @@ use Rattle.domain_octets.specs.Octets.{Octets}
 use Rattle.domain_names.specs.Name.{Name}
 use Rattle.domain_base.specs.Types as rtypes
 use Rattle.domain_record.specs.declared.record.Record.{Record}
-use Rattle.domain_rdata.specs.Zone.{canonical_octets, data_cmp, minimum_of as zone_minimum_of, rtype_of}
+use Rattle.domain_rdata.specs.Zone.{canonical_octets, data_cmp, minimum_of, rtype_of}
 use Rattle.domain_rdata.specs.declared.zone_record_data.ZoneRecordData.{ZoneRecordData, TheVariants.{Soa, Unknown}}
 use Rattle.domain_nsec.specs.{Chain.Link, declared.config.GenerateNsecConfig.GenerateNsecConfig}
 use Rattle.domain_nsec3.specs.{Chain.{HashedLink, ParamRecord, ChainConfig}, declared.config.Nsec3ParamTtlMode.Nsec3ParamTtlMode}
-use Rattle.domain_borrowed.specs.Data.{RawData, RawRecord, data_cmp as raw_cmp, minimum_of, raw_record_of}
+use Rattle.domain_borrowed.specs.Data.{RawData, RawRecord, raw_cmp, raw_minimum, raw_record_of}
 use Rattle.domain_any_order.specs.{AnyOrder.{View, seen, IsChainOf, HasNoChain, IsHashedChainOf, HasNoHashedChain}, declared.error.ChainError.ChainError}
 
 -- data of type SOA are parsed, and their MINIMUM has 32 bits (RFC 1035, section 3.3.13)
@@ -30,10 +30,10 @@ module _ {O N : Type 0} (octets : O → Octets) (labels : N → Name) where
 
 -- how records whose data are octets are seen, and (`zone_view`) records with data of all types
 abbrev pub raw_view : View Name RawData
-raw_view = seen (λ n. n) (λ d. d.rtype) minimum_of raw_cmp
+raw_view = seen (λ n. n) (λ d. d.rtype) raw_minimum raw_cmp
 
 abbrev pub zone_view : {O N : Type 0} → (O → Octets) → (N → Name) → View N (ZoneRecordData O N)
-zone_view octets labels = seen labels rtype_of zone_minimum_of (data_cmp octets labels)
+zone_view octets labels = seen labels rtype_of minimum_of (data_cmp octets labels)
 
 -- a chain of the records of octets is also a chain of the given records; a reason why the former
 -- have none is also a reason for the latter

@@ -2,7 +2,7 @@
 ghost use Rattle.std.specs.Prelude.{IfErr, IfOk};
 ghost use Rattle.domain_records.specs.Order.{IsOneClass};
 ghost use Rattle.domain_nsec.specs.Chain.{links_of, IsFaultless};
-ghost use Rattle.domain_nsec3.specs.Chain.{IsFaultless as IsHashedFaultless};
+ghost use Rattle.domain_nsec3.specs.Chain.{IsHashedFaultless};
 ghost use Rattle.domain_nsec3.specs.View.{as_param_record, config_of, hashed_links_of};
 ghost use Rattle.domain_any_order.specs.AnyOrder.{HasNoChain, HasNoHashedChain, HasNoSet, IsChainOf, IsHashedChainOf, OfZone, Sorts, seen};
 

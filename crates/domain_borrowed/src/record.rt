@@ -8,8 +8,8 @@ ghost use Rattle.domain_nsec.specs.Chain.{Link, as_link};
 ghost use Rattle.domain_nsec3.specs.Chain.{HashedLink, ParamRecord};
 ghost use Rattle.domain_nsec3.specs.View.{as_hashed_link, as_param_record};
 ghost use Rattle.domain_borrowed.specs.Data.{last_long, RawRecord, nsec_record, nsec3_record, param_record};
-ghost use Rattle.domain_borrowed.specs.Data.{IsNsec, IsNsec3, IsParam, raw_record, raw_record_of};
-ghost use Rattle.domain_borrowed.specs.Data.{record_octets, IsRecord};
+ghost use Rattle.domain_borrowed.specs.Data.{IsNsec, IsNsec3, IsParam, raw_record_with, raw_record_of};
+ghost use Rattle.domain_borrowed.specs.Data.{raw_record_octets, IsRecord};
 
 use domain_base::{CanonicalOrd, Class, ParsedName, Rtype, ToName, Ttl};
 use domain_chain_rdata::{Nsec, Nsec3, Nsec3param};
@@ -82,9 +82,9 @@ impl<'a> RecordData for BorrowedData<'a> {
 
 // The MINIMUM is the last field of an SOA, in its last four octets.
 impl<'a> ZoneData for BorrowedData<'a> {
-    ghost use Rattle.domain_borrowed.specs.Data.{minimum_of};
+    ghost use Rattle.domain_borrowed.specs.Data.{raw_minimum};
 
-    ghost minimum = { minimum_of };
+    ghost minimum = { raw_minimum };
 
     fn soa_minimum(&self) -> Option<Ttl> {
         if self.rtype != Rtype::SOA {
@@ -97,11 +97,11 @@ impl<'a> ZoneData for BorrowedData<'a> {
 // By the number of the type, and then by octets: the canonical order, if data are in canonical
 // form.
 impl<'a> CanonicalOrd for BorrowedData<'a> {
-    ghost use Rattle.domain_borrowed.specs.Data.{data_cmp, data_cmp_total};
+    ghost use Rattle.domain_borrowed.specs.Data.{raw_cmp, raw_cmp_total};
 
-    ghost canonical_cmp = { data_cmp };
+    ghost canonical_cmp = { raw_cmp };
 
-    ghost total = { data_cmp_total };
+    ghost total = { raw_cmp_total };
 
     fn canonical_cmp(&self, other: &Self) -> Ordering {
         match self.rtype.cmp(&other.rtype) {
@@ -253,10 +253,10 @@ type Header<'a> = (ParsedName<'a>, (u16, (u16, (u32, u16))));
 /// Reads the next record, without compression. Returns `None` if the octets that are left do not
 /// begin with a record; some of them may then have been read. Takes no memory.
 pub fn read_record<'a>(parser: &mut Parser<'a>) -> Option<BorrowedRecord<'a>>
-    ensures some { IfSome result (λ r. (parser.old.left ≡ record_octets r ++ parser.new.left)
+    ensures some { IfSome result (λ r. (parser.old.left ≡ raw_record_octets r ++ parser.new.left)
         × IsRecord r) }
     ensures none { IfNone result ((r : RawRecord) (after : Octets) → IsRecord r
-        → parser.old.left ≡ record_octets r ++ after → ⊥) }
+        → parser.old.left ≡ raw_record_octets r ++ after → ⊥) }
 {
     let Ok(header) = Header::<'a>::read(parser) else {
         return None;
@@ -290,8 +290,10 @@ pub fn compose_parts<N: ToName, D: ComposeRecordData, B: OctetsBuilder>(
 ) -> Result<(), AppendError>
     requires { length (D.octets «data».now) ≤ 65535 }
     ensures appends { Appends B.limit result (B.octets target.old) (B.octets target.new)
-        (record_octets (raw_record N.labels D.rtype D.octets owner.now class ttl «data».now)) }
-    ensures fits { IsRecord (raw_record N.labels D.rtype D.octets owner.now class ttl «data».now) }
+        (raw_record_octets (raw_record_with N.labels D.rtype D.octets owner.now class ttl
+        «data».now)) }
+    ensures fits { IsRecord (raw_record_with N.labels D.rtype D.octets owner.now class ttl
+        «data».now) }
 {
     let Some(count) = data.rdlen(false) else {
         unreachable!();
@@ -314,7 +316,7 @@ pub fn compose_record<N: ToName, D: ComposeRecordData, B: OctetsBuilder>(
 ) -> Result<(), AppendError>
     requires { length (D.octets source.now.«data») ≤ 65535 }
     ensures appends { Appends B.limit result (B.octets target.old) (B.octets target.new)
-        (record_octets (raw_record_of N.labels D.rtype D.octets source.now)) }
+        (raw_record_octets (raw_record_of N.labels D.rtype D.octets source.now)) }
     ensures fits { IsRecord (raw_record_of N.labels D.rtype D.octets source.now) }
 {
     let (class, ttl) = (source.class(), source.ttl());

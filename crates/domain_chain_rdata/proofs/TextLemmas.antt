@@ -14,7 +14,7 @@ use Rattle.domain_fields.{specs.{Layout.{Values, Fits, ParsesBack}, Scan.IsExact
 use Rattle.domain_fields.proofs.{GrammarLemmas.{both_exact, exact_for}, ExactLemmas.parses_back}
 use Rattle.domain_chain_rdata.specs.Text.{BitmapText, NsecText, IsOfNsec, RefusesNsec, Nsec3paramText, RefusesNsec3param, hash_numbers_text, nsec3param_text}
 use Rattle.domain_chain_rdata.specs.{Text.{HashText, RefusesHash, Nsec3Text, RefusesNsec3, params_before_hash, nsec3_text, number_pieces}, Rdata.hash_numbers}
-use Rattle.domain_chain_rdata.specs.Rdata.{nsec, nsec3param, hash_fields, nsec3}
+use Rattle.domain_chain_rdata.specs.Rdata.{nsec_layout, nsec3param_layout, hash_fields, nsec3_layout}
 use Rattle.domain_octets.{specs.Text.{words_of, PieceText, token, comment}, proofs.WordLemmas.{one_word, next_word, decimal_word}}
 
 -- ---- The texts of NSEC and NSEC3 data and of the parameters of hashes: tokens spell one at most, and are refused for one reason, spelling none.
@@ -80,7 +80,7 @@ rebuilt octets = bitmap_octets (is_among (types_of octets))
 types_read : (octets : List ℕ) → IsBitmap octets → BitmapText (map type_text (types_of octets)) (rebuilt octets) []
 types_read octets bitmap = record { types = types_of octets; spelled = texts_spell (types_of octets) (are_types octets bitmap); built = refl; all = refl }
 
-pub nsec_text_back : (labels : List (List ℕ)) (octets : List ℕ) → Fits nsec (labels, octets)
+pub nsec_text_back : (labels : List (List ℕ)) (octets : List ℕ) → Fits nsec_layout (labels, octets)
     → NsecText (words_of (name_text labels ++ 46 ∷ 32 ∷ [] ++ types_text (types_of octets))) (labels, rebuilt octets) []
 nsec_text_back labels octets (valid, bitmap) =
     let types = types_of octets in
@@ -90,7 +90,7 @@ nsec_text_back labels octets (valid, bitmap) =
     ∙ types_after name types (are_types octets bitmap) ∙ ap (λ l. l ++ map type_text types) (one_word name (name_word labels valid)) in
     (map type_text types, record { token = name; first = words; holds = dotted_name_back labels valid }, types_read octets bitmap)
 
-pub nsec_text_same : (labels : List (List ℕ)) (octets : List ℕ) → Fits nsec (labels, octets) → IsShortest octets
+pub nsec_text_same : (labels : List (List ℕ)) (octets : List ℕ) → Fits nsec_layout (labels, octets) → IsShortest octets
     → NsecText (words_of (name_text labels ++ 46 ∷ 32 ∷ [] ++ types_text (types_of octets))) (labels, octets) []
 nsec_text_same labels octets fits shortest = grind (arith, common_steps, (bitmap_back octets fits.1 shortest), (nsec_text_back labels octets fits))
 
@@ -100,17 +100,17 @@ numbers_words : (v : Values hash_numbers) → Fits hash_numbers v → words_of (
 unfolding hash_numbers_text
 numbers_words v fits = grind (arith, common_steps, one_word, decimal_word, next_word)
 
-abbrev params_tokens : Values nsec3param → List (List ℕ)
+abbrev params_tokens : Values nsec3param_layout → List (List ℕ)
 params_tokens v = decimal v.0.0 ∷ decimal v.0.1.0 ∷ decimal v.0.1.1 ∷ salt_text v.1 ∷ []
 
-params_words : (v : Values nsec3param) → Fits nsec3param v → words_of (nsec3param_text v) ≡ params_tokens v
+params_words : (v : Values nsec3param_layout) → Fits nsec3param_layout v → words_of (nsec3param_text v) ≡ params_tokens v
 params_words v fits = grind (arith, common_steps, next_word, salt_word, numbers_words)
 
-params_read : (v : Values nsec3param) (after : List (List ℕ)) → Fits nsec3param v → Nsec3paramText (params_tokens v ++ after) v after
+params_read : (v : Values nsec3param_layout) (after : List (List ℕ)) → Fits nsec3param_layout v → Nsec3paramText (params_tokens v ++ after) v after
 params_read v after fits =
     grind (arith, common_steps, (fields_back hash_numbers v.0 (salt_text v.1 ∷ after) refl fits.0), (salt_back v.1 fits.1.1 (omega (arith, fits.1.0))))
 
-pub params_text_back : (v : Values nsec3param) → Fits nsec3param v → Nsec3paramText (words_of (nsec3param_text v)) v []
+pub params_text_back : (v : Values nsec3param_layout) → Fits nsec3param_layout v → Nsec3paramText (words_of (nsec3param_text v)) v []
 params_text_back v fits = subst (λ tokens. Nsec3paramText tokens v []) (sym (params_words v fits)) (params_read v [] fits)
 
 -- ---- NSEC3
@@ -118,30 +118,30 @@ params_text_back v fits = subst (λ tokens. Nsec3paramText tokens v []) (sym (pa
 hash_read : (v : Values hash_fields) (after : List (List ℕ)) → Fits hash_fields v → HashText (params_tokens v.0 ++ base32_upper v.1 ∷ after) v after
 hash_read v after fits = grind (arith, common_steps, (params_read v.0 (base32_upper v.1 ∷ after) fits.0), (upper_reads_back v.1 fits.1.1))
 
-nsec3_words : (v : Values nsec3) → Fits nsec3 v → v.0.1 ≢ []
+nsec3_words : (v : Values nsec3_layout) → Fits nsec3_layout v → v.0.1 ≢ []
     → words_of (nsec3_text v) ≡ params_tokens v.0.0 ++ base32_upper v.0.1 ∷ map type_text (types_of v.1)
 nsec3_words v fits some = grind (arith, common_steps, spaced_words, are_types, next_word, upper_base32_word, params_words)
 
-pub nsec3_text_back : (v : Values nsec3) → Fits nsec3 v → v.0.1 ≢ [] → Nsec3Text (words_of (nsec3_text v)) (v.0, rebuilt v.1) []
+pub nsec3_text_back : (v : Values nsec3_layout) → Fits nsec3_layout v → v.0.1 ≢ [] → Nsec3Text (words_of (nsec3_text v)) (v.0, rebuilt v.1) []
 nsec3_text_back v fits some =
     let types = map type_text (types_of v.1) in
     subst (λ tokens. Nsec3Text tokens (v.0, rebuilt v.1) []) (sym (nsec3_words v fits some))
     (types, hash_read v.0 types fits.0, types_read v.1 fits.1)
 
-pub nsec3_text_same : (v : Values nsec3) → Fits nsec3 v → v.0.1 ≢ [] → IsShortest v.1 → Nsec3Text (words_of (nsec3_text v)) v []
+pub nsec3_text_same : (v : Values nsec3_layout) → Fits nsec3_layout v → v.0.1 ≢ [] → IsShortest v.1 → Nsec3Text (words_of (nsec3_text v)) v []
 nsec3_text_same v fits some shortest = grind (arith, common_steps, bitmap_back, nsec3_text_back)
 
 -- ---- data of chains: their octets are read back, and how they are written
 
 -- octets of fields that fit are read as them alone
-pub nsec_back : (v : Values nsec) → Fits nsec v → ParsesBack nsec v
-nsec_back v fits = parses_back nsec v refl fits (tt, refl)
+pub nsec_back : (v : Values nsec_layout) → Fits nsec_layout v → ParsesBack nsec_layout v
+nsec_back v fits = parses_back nsec_layout v refl fits (tt, refl)
 
-pub params_back : (v : Values nsec3param) → Fits nsec3param v → ParsesBack nsec3param v
-params_back v fits = parses_back nsec3param v refl fits ((tt, (tt, tt)), tt)
+pub params_back : (v : Values nsec3param_layout) → Fits nsec3param_layout v → ParsesBack nsec3param_layout v
+params_back v fits = parses_back nsec3param_layout v refl fits ((tt, (tt, tt)), tt)
 
-pub nsec3_back : (v : Values nsec3) → Fits nsec3 v → ParsesBack nsec3 v
-nsec3_back v fits = parses_back nsec3 v refl fits ((((tt, (tt, tt)), tt), tt), refl)
+pub nsec3_back : (v : Values nsec3_layout) → Fits nsec3_layout v → ParsesBack nsec3_layout v
+nsec3_back v fits = parses_back nsec3_layout v refl fits ((((tt, (tt, tt)), tt), tt), refl)
 
 -- types after a space
 pub after_a_space : (types : List ℕ) → (types ≡ [] → ⊥) → codes " " ++ types_text types ≡ spaced_types types

@@ -11,10 +11,10 @@ use Rattle.std.specs.Hash as fed
 
 -- the next name, whose case the canonical form keeps (RFC 6840, section 5.1), and the type bitmap
 -- (RFC 4034, section 4.1)
-abbrev pub nsec : Layout
-nsec = one spelled_name ▸ one types
+abbrev pub nsec_layout : Layout
+nsec_layout = one spelled_name ▸ one types
 
-abbrev pub nsec_values : {O N : Type 0} → (N → Name) → Nsec O N → Values nsec
+abbrev pub nsec_values : {O N : Type 0} → (N → Name) → Nsec O N → Values nsec_layout
 nsec_values labels d = (labels d.next_name, d.types)
 
 -- the fields that are hashed: the next name in lower case, since data that differ only in its case
@@ -27,14 +27,14 @@ abbrev pub hash_numbers : Layout
 hash_numbers = one octet ▸ one octet ▸ one short
 
 -- these numbers, and the salt (RFC 5155, section 4.2)
-abbrev pub nsec3param : Layout
-nsec3param = hash_numbers ▸ one counted
+abbrev pub nsec3param_layout : Layout
+nsec3param_layout = hash_numbers ▸ one counted
 
-abbrev pub nsec3param_values : {O : Type 0} → Nsec3param O → Values nsec3param
+abbrev pub nsec3param_values : {O : Type 0} → Nsec3param O → Values nsec3param_layout
 nsec3param_values d = ((d.hash_algorithm, (d.flags, d.iterations)), d.salt)
 
 abbrev pub nsec3param_octets : {O : Type 0} → Nsec3param O → Octets
-nsec3param_octets d = octets_of nsec3param (nsec3param_values d)
+nsec3param_octets d = octets_of nsec3param_layout (nsec3param_values d)
 
 -- the octets without the length of the salt: their order compares salts lexicographically
 abbrev pub uncounted : Layout
@@ -45,17 +45,17 @@ uncounted_octets d = octets_of uncounted (nsec3param_values d)
 
 -- the parameters and the next hash (RFC 5155, section 3.2)
 abbrev pub hash_fields : Layout
-hash_fields = nsec3param ▸ one counted
+hash_fields = nsec3param_layout ▸ one counted
 
 -- these fields, and the type bitmap
-abbrev pub nsec3 : Layout
-nsec3 = hash_fields ▸ one types
+abbrev pub nsec3_layout : Layout
+nsec3_layout = hash_fields ▸ one types
 
-abbrev pub nsec3_values : {O : Type 0} → Nsec3 O → Values nsec3
+abbrev pub nsec3_values : {O : Type 0} → Nsec3 O → Values nsec3_layout
 nsec3_values d = ((((d.hash_algorithm, (d.flags, d.iterations)), d.salt), d.next_owner), d.types)
 
 abbrev pub nsec3_octets : {O : Type 0} → Nsec3 O → Octets
-nsec3_octets d = octets_of nsec3 (nsec3_values d)
+nsec3_octets d = octets_of nsec3_layout (nsec3_values d)
 
 -- ---- laws that the impls of comparisons use
 

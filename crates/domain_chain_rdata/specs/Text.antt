@@ -6,7 +6,7 @@ use Rattle.domain_base.specs.{Scan.{OneToken, RefusesToken, Refusal, Grammar}, T
 use Rattle.domain_bitmap.specs.{Bitmap.bitmap_octets, Blocks.types_of, Pieces.{type_pieces, salt_pieces}, Text.{TypeTexts, RefusesTypes}}
 use Rattle.domain_bitmap.specs.Text.{is_among, SaltText, salt_text, OwnerHashText, SaltTokenFault, CountedFault, spaced_types}
 use Rattle.domain_fields.specs.{Layout.Values, Scan.{Both, RefusesBoth, Scans, Refuses}}
-use Rattle.domain_chain_rdata.specs.Rdata.{nsec, hash_numbers, nsec3param, hash_fields, nsec3, opt_out_comment}
+use Rattle.domain_chain_rdata.specs.Rdata.{nsec_layout, hash_numbers, nsec3param_layout, hash_fields, nsec3_layout, opt_out_comment}
 use Rattle.domain_codecs.specs.{Base32.base32_upper, declared.codec.Codec.TheVariants.Base32Hex}
 
 -- ---- NSEC data as tokens and as pieces of a zone file
@@ -19,7 +19,7 @@ pub record BitmapText (old : Tokens) (octets : Octets) (new : Tokens) : Type 0 w
   pub all : new ≡ []
 
 -- the tokens are a name, and then types to the end, one type a token (RFC 4034, section 4.2)
-abbrev pub NsecText : Grammar (Values nsec)
+abbrev pub NsecText : Grammar (Values nsec_layout)
 NsecText = Both (OneToken NameText) BitmapText
 
 -- the first token that is rejected: that of the name, if names have the first limit, or that of a
@@ -41,7 +41,7 @@ nsec_pieces labels octets =
 -- zone file
 
 -- the tokens begin with three numbers and a salt, and the other tokens are left
-abbrev pub Nsec3paramText : Grammar (Values nsec3param)
+abbrev pub Nsec3paramText : Grammar (Values nsec3param_layout)
 Nsec3paramText = Both (Scans hash_numbers) (OneToken SaltText)
 
 -- the first of these tokens that is rejected, if salts have this limit
@@ -55,7 +55,7 @@ unfoldable pub hash_numbers_text : Values hash_numbers → Octets
 hash_numbers_text v = decimal v.0 ++ codes " " ++ decimal v.1.0 ++ codes " " ++ decimal v.1.1
 
 -- all fields separated by single spaces
-abbrev pub nsec3param_text : Values nsec3param → Octets
+abbrev pub nsec3param_text : Values nsec3param_layout → Octets
 nsec3param_text v = hash_numbers_text v.0 ++ codes " " ++ salt_text v.1
 
 -- the pieces of the numbers, with this comment for the flags
@@ -64,7 +64,7 @@ number_pieces flags_comment v =
     token (decimal v.0) ∷ token (decimal v.1.0) ∷ comment flags_comment ∷ token (decimal v.1.1)
     ∷ comment (codes "iterations") ∷ []
 
-abbrev pub nsec3param_pieces : Values nsec3param → List PieceText
+abbrev pub nsec3param_pieces : Values nsec3param_layout → List PieceText
 nsec3param_pieces v =
     opens ∷ (number_pieces (codes "flags") v.0 ++ (salt_pieces v.1 ++ closes ∷ []))
 
@@ -80,7 +80,7 @@ RefusesHash limit =
     (RefusesToken (CountedFault Base32Hex (codes "illegal owner name hash") limit))
 
 -- the parameters and a hash, and then types to the end
-abbrev pub Nsec3Text : Grammar (Values nsec3)
+abbrev pub Nsec3Text : Grammar (Values nsec3_layout)
 Nsec3Text = Both HashText BitmapText
 
 -- the first token that is rejected, if salts, hashes and bitmaps have this limit
@@ -93,11 +93,11 @@ params_before_hash numbers salt =
     hash_numbers_text numbers ++ codes " " ++ salt_text salt ++ codes " "
 
 -- the fields separated by single spaces, with none after the hash if there are no types
-abbrev pub nsec3_text : Values nsec3 → Octets
+abbrev pub nsec3_text : Values nsec3_layout → Octets
 nsec3_text v =
     params_before_hash v.0.0.0 v.0.0.1 ++ base32_upper v.0.1 ++ spaced_types (types_of v.1)
 
-abbrev pub nsec3_pieces : Values nsec3 → List PieceText
+abbrev pub nsec3_pieces : Values nsec3_layout → List PieceText
 nsec3_pieces v =
     let numbers = v.0.0.0 in
     opens ∷ (number_pieces (opt_out_comment numbers.1.0) numbers

@@ -9,7 +9,7 @@ ghost use Rattle.domain_names.specs.Name.{same_name, canonical_cmp as name_cmp, 
 ghost use Rattle.domain_names.specs.{Laws.same_name_equiv, Wire.fault_of, Text.name_text};
 ghost use Rattle.domain_fields.specs.Layout.{same_values_tie, ties_of_both, octets_of, canonical_of};
 ghost use Rattle.domain_fields.specs.Layout.{Reads};
-ghost use Rattle.domain_chain_rdata.specs.Rdata.{nsec, nsec_values, nsec_hashed, nsec_fed};
+ghost use Rattle.domain_chain_rdata.specs.Rdata.{nsec_layout, nsec_values, nsec_hashed, nsec_fed};
 ghost use Rattle.domain_chain_rdata.specs.{NsecConvert.{IsNsecClone, IsSameNsec}, Text.{NsecText, RefusesNsec}};
 ghost use Rattle.domain_chain_rdata.specs.Text.{nsec_pieces};
 ghost use Rattle.domain_bitmap.specs.{Blocks.types_of, Text.types_text};
@@ -97,7 +97,8 @@ impl<'a> Nsec<&'a [u8], ParsedName<'a>> {
     /// - `Form("long domain name")` if the name is longer than 255 octets.
     /// - `Form("invalid NSEC bitmap")` if a block of the bitmap has no octets or more than 32.
     pub fn parse(parser: &mut Parser<'a>) -> Result<Self, ParseError>
-        ensures { Reads nsec (nsec_values (λ name. name)) fault_of parser.old parser.new result }
+        ensures { Reads nsec_layout (nsec_values (λ name. name)) fault_of parser.old
+            parser.new result }
     {
         let (Spelled(next_name), types) = NsecFields::<'a>::read(parser)?;
         Ok(Nsec::new(next_name, types))
@@ -107,7 +108,7 @@ impl<'a> Nsec<&'a [u8], ParsedName<'a>> {
 impl<'a> ParseRecordData<'a> for Nsec<&'a [u8], ParsedName<'a>> {
     ghost is_read = { λ rtype. rtype ≡ rtypes.nsec };
 
-    ghost layout = { nsec };
+    ghost layout = { nsec_layout };
 
     ghost values = { nsec_values (λ name. name) };
 
@@ -128,9 +129,9 @@ impl<O: Octets, N: ToName> RecordData for Nsec<O, N> {
 }
 
 impl<O: Octets, N: ToName> ComposeRecordData for Nsec<O, N> {
-    ghost octets = { λ d. octets_of nsec (nsec_values N.labels d) };
+    ghost octets = { λ d. octets_of nsec_layout (nsec_values N.labels d) };
 
-    ghost canonical = { λ d. canonical_of nsec (nsec_values N.labels d) };
+    ghost canonical = { λ d. canonical_of nsec_layout (nsec_values N.labels d) };
 
     fn room_after(&self, limit: usize) -> Option<usize> {
         self.fields().room_after(limit)
@@ -146,10 +147,10 @@ impl<O: Octets, N: ToName> ComposeRecordData for Nsec<O, N> {
 }
 
 impl<O: Octets, N: ToName> CanonicalOrd for Nsec<O, N> {
-    ghost canonical_cmp = { on (λ d. canonical_of nsec (nsec_values N.labels d))
+    ghost canonical_cmp = { on (λ d. canonical_of nsec_layout (nsec_values N.labels d))
         (slice_cmp nat_cmp) };
 
-    ghost total = { on_texts (λ d. canonical_of nsec (nsec_values N.labels d)) };
+    ghost total = { on_texts (λ d. canonical_of nsec_layout (nsec_values N.labels d)) };
 
     fn canonical_cmp(&self, other: &Self) -> Ordering {
         self.canonical_cmp_to(other)
@@ -180,8 +181,9 @@ impl<O: Octets, N: ToName> Nsec<O, N> {
 
     /// Compares in canonical order. The types of octets and names may differ. Takes no memory.
     pub fn canonical_cmp_to<P: Octets, M: ToName>(&self, other: &Nsec<P, M>) -> Ordering
-        ensures { result ≡ slice_cmp nat_cmp (canonical_of nsec (nsec_values N.labels self.now))
-            (canonical_of nsec (nsec_values M.labels other.now)) }
+        ensures { result ≡ slice_cmp nat_cmp (canonical_of nsec_layout
+            (nsec_values N.labels self.now))
+            (canonical_of nsec_layout (nsec_values M.labels other.now)) }
     {
         self.fields().order(&other.fields())
     }
@@ -268,7 +270,8 @@ impl<O: Octets, N: TryClone + Drop> TryClone for Nsec<O, N> {
 impl<O: Octets, N: ToName + Drop> CloneRecordData for Nsec<O, N> {
     ghost clone_rtype = { λ d copy same. refl };
 
-    ghost clone_canonical = { λ d copy same. same_values_tie nsec (nsec_values N.labels) d copy
+    ghost clone_canonical = { λ d copy same. same_values_tie nsec_layout
+        (nsec_values N.labels) d copy
         (λ i. (N.clone_labels d.next_name copy.next_name same.next_name i, same.types i)) };
 }
 

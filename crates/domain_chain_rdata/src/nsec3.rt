@@ -7,7 +7,7 @@ ghost use Rattle.domain_octets.specs.Octets.{IsOver};
 ghost use Rattle.domain_names.specs.Wire.{fault_of};
 ghost use Rattle.domain_fields.specs.Layout.{copies_tied, fed_alike, tied_octets, Fits};
 ghost use Rattle.domain_fields.specs.Layout.{Reads};
-ghost use Rattle.domain_chain_rdata.specs.Rdata.{is_opt_out, opt_out_comment, nsec3, nsec3_values};
+ghost use Rattle.domain_chain_rdata.specs.Rdata.{is_opt_out, opt_out_comment, nsec3_layout, nsec3_values};
 ghost use Rattle.domain_chain_rdata.specs.{Rdata.{nsec3_octets, nsec3param_values}, Text.Nsec3Text};
 ghost use Rattle.domain_chain_rdata.specs.Text.{RefusesNsec3, params_before_hash, nsec3_text, nsec3_pieces};
 ghost use Rattle.domain_bitmap.specs.{Blocks.types_of, Text.spaced_types};
@@ -173,7 +173,7 @@ impl<O: Octets> Nsec3<O> {
           ((result.0.0.0, result.0.0.1.octets.now), result.0.1.octets.now),
           result.1,
         ) }
-        ensures fits { Fits nsec3 (nsec3_values self.now) }
+        ensures fits { Fits nsec3_layout (nsec3_values self.now) }
     {
         let salt = Counted::new(self.salt.as_slice());
         let next_owner = Counted::new(self.next_owner.as_slice());
@@ -199,7 +199,7 @@ impl<'a> Nsec3<&'a [u8]> {
     /// - `ShortInput` if an octet is missing.
     /// - `Form("invalid NSEC bitmap")` if a block of the bitmap has no octets or more than 32.
     pub fn parse(parser: &mut Parser<'a>) -> Result<Self, ParseError>
-        ensures { Reads nsec3 nsec3_values fault_of parser.old parser.new result }
+        ensures { Reads nsec3_layout nsec3_values fault_of parser.old parser.new result }
     {
         let ((params, hash), types) = Nsec3Fields::<'a>::read(parser)?;
         let next_owner = OwnerHash::from_octets_unchecked(hash.as_slice());
@@ -210,7 +210,7 @@ impl<'a> Nsec3<&'a [u8]> {
 impl<'a> ParseRecordData<'a> for Nsec3<&'a [u8]> {
     ghost is_read = { λ rtype. rtype ≡ rtypes.nsec3 };
 
-    ghost layout = { nsec3 };
+    ghost layout = { nsec3_layout };
 
     ghost values = { nsec3_values };
 
@@ -401,7 +401,7 @@ where
     pub fn scan<S: Scanner<Octets = O>>(alloc: Global, scanner: &mut S) -> Result<Self, ScanError>
         ensures read { ReadsTokens Nsec3Text nsec3_values (RefusesNsec3 O.Builder.limit)
             (S.tokens scanner.old) (S.tokens scanner.new) result }
-        ensures fits { IfOk result (λ d. Fits nsec3 (nsec3_values d)) }
+        ensures fits { IfOk result (λ d. Fits nsec3_layout (nsec3_values d)) }
     {
         let params = Nsec3param::scan(alloc, scanner)?;
         let next_owner = OwnerHash::scan(alloc, scanner)?;

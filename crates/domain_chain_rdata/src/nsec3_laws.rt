@@ -7,7 +7,7 @@ ghost use Rattle.domain_bitmap.specs.{Bitmap.bitmap_octets, Blocks.{IsShortest, 
 ghost use Rattle.domain_fields.specs.{Layout.ParsesBack, Scan.IsExact};
 ghost use Rattle.domain_chain_rdata.specs.Text.{Nsec3paramText, RefusesNsec3param, nsec3param_text, HashText};
 ghost use Rattle.domain_chain_rdata.specs.Text.{Nsec3Text, RefusesNsec3, nsec3_text, RefusesHash};
-ghost use Rattle.domain_chain_rdata.specs.Rdata.{nsec3, nsec3_values, nsec3param, nsec3param_values};
+ghost use Rattle.domain_chain_rdata.specs.Rdata.{nsec3_layout, nsec3_values, nsec3param_layout, nsec3param_values};
 
 use crate::{Nsec3, Nsec3param};
 use domain_octets::Octets;
@@ -15,7 +15,7 @@ use domain_octets::Octets;
 /// The octets of parameters parse back as these parameters, in no other way, and nothing is left.
 #[tactic(auto, using(crate::proofs::TextLemmas::params_back))]
 pub fn nsec3param_parses_back<O: Octets>(value: &Nsec3param<O>)
-    ensures { ParsesBack nsec3param (nsec3param_values value.now) }
+    ensures { ParsesBack nsec3param_layout (nsec3param_values value.now) }
 {
     let _fields = value.fields();
 }
@@ -24,7 +24,7 @@ pub fn nsec3param_parses_back<O: Octets>(value: &Nsec3param<O>)
 /// way, and nothing is left.
 #[tactic(auto, using(crate::proofs::TextLemmas::nsec3_back))]
 pub fn nsec3_parses_back<O: Octets>(value: &Nsec3<O>)
-    ensures { ParsesBack nsec3 (nsec3_values value.now) }
+    ensures { ParsesBack nsec3_layout (nsec3_values value.now) }
 {
     let _fields = value.fields();
 }

@@ -6,7 +6,7 @@ ghost use Rattle.domain_octets.specs.Octets.{IsOver};
 ghost use Rattle.domain_names.specs.Wire.{fault_of};
 ghost use Rattle.domain_fields.specs.Layout.{Fits, Reads, fed_alike, tied_octets};
 ghost use Rattle.domain_fields.specs.Layout.{copies_tied};
-ghost use Rattle.domain_chain_rdata.specs.Rdata.{is_opt_out, with_opt_out, nsec3param, nsec3param_values};
+ghost use Rattle.domain_chain_rdata.specs.Rdata.{is_opt_out, with_opt_out, nsec3param_layout, nsec3param_values};
 ghost use Rattle.domain_chain_rdata.specs.Rdata.{nsec3param_octets, uncounted, uncounted_octets};
 ghost use Rattle.domain_chain_rdata.specs.Text.{Nsec3paramText, RefusesNsec3param, hash_numbers_text};
 ghost use Rattle.domain_chain_rdata.specs.Text.{nsec3param_text, number_pieces, nsec3param_pieces};
@@ -157,7 +157,7 @@ impl<O: Octets> Nsec3param<O> {
     /// Returns the fields, in wire order.
     pub(crate) fn fields(&self) -> ParamFields<'_>
         ensures values { nsec3param_values self.now ≡ (result.0, result.1.octets.now) }
-        ensures fits { Fits nsec3param (nsec3param_values self.now) }
+        ensures fits { Fits nsec3param_layout (nsec3param_values self.now) }
     {
         let salt = self.salt.as_slice();
         laws::slices_hold_octets(salt);
@@ -195,7 +195,7 @@ impl<'a> Nsec3param<&'a [u8]> {
     ///
     /// `ShortInput` if an octet is missing. The parser does not move then.
     pub fn parse(parser: &mut Parser<'a>) -> Result<Self, ParseError>
-        ensures { Reads nsec3param nsec3param_values fault_of parser.old parser.new result }
+        ensures { Reads nsec3param_layout nsec3param_values fault_of parser.old parser.new result }
     {
         match ParamFields::<'a>::read(parser) {
             Ok(fields) => Ok(params_of(fields)),
@@ -207,7 +207,7 @@ impl<'a> Nsec3param<&'a [u8]> {
 impl<'a> ParseRecordData<'a> for Nsec3param<&'a [u8]> {
     ghost is_read = { λ rtype. rtype ≡ rtypes.nsec3param };
 
-    ghost layout = { nsec3param };
+    ghost layout = { nsec3param_layout };
 
     ghost values = { nsec3param_values };
 
@@ -375,7 +375,7 @@ impl<O: FromBuilder + Drop> Nsec3param<O> {
         ensures read { ReadsTokens Nsec3paramText nsec3param_values
             (RefusesNsec3param O.Builder.limit) (S.tokens scanner.old) (S.tokens scanner.new)
             result }
-        ensures fits { IfOk result (λ d. Fits nsec3param (nsec3param_values d)) }
+        ensures fits { IfOk result (λ d. Fits nsec3param_layout (nsec3param_values d)) }
     {
         let numbers = <HashNumbers as ScanFields<S>>::scan(alloc, scanner)?;
         let (hash_algorithm, (flags, iterations)) = numbers;

@@ -5,7 +5,7 @@ ghost use Rattle.domain_octets.specs.Text.{words_of};
 ghost use Rattle.domain_names.specs.Text.{name_text};
 ghost use Rattle.domain_bitmap.specs.{Bitmap.bitmap_octets, Blocks.{IsShortest, types_of}, Text.is_among};
 ghost use Rattle.domain_bitmap.specs.Text.{types_text};
-ghost use Rattle.domain_chain_rdata.specs.{Text.{NsecText, IsOfNsec, RefusesNsec}, Rdata.{nsec, nsec_values}};
+ghost use Rattle.domain_chain_rdata.specs.{Text.{NsecText, IsOfNsec, RefusesNsec}, Rdata.{nsec_layout, nsec_values}};
 ghost use Rattle.domain_fields.specs.{Layout.ParsesBack, Scan.IsExact};
 
 use crate::Nsec;
@@ -17,7 +17,7 @@ use domain_octets::Octets;
 /// nothing is left.
 #[tactic(auto, using(crate::proofs::TextLemmas::nsec_back))]
 pub fn nsec_parses_back<O: Octets, N: ToName>(value: &Nsec<O, N>)
-    ensures { ParsesBack nsec (nsec_values N.labels value.now) }
+    ensures { ParsesBack nsec_layout (nsec_values N.labels value.now) }
 {
     value.fields().fits();
 }

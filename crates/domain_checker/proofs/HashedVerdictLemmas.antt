@@ -4,9 +4,9 @@ use Rattle.domain_bitmap.{proofs.BitLemmas.{any_at, any_none as any_missing}, sp
 use Rattle.domain_chain_rdata.specs.Rdata.{is_opt_out}
 use Rattle.domain_checker.proofs.MeantLemmas.{IsDefinite, apex_from, below_cut, choose_by, closest_is, cut_above, cut_apart, cut_same, exists_above}
 use Rattle.domain_checker.proofs.MeantLemmas.{hashed_proved_alike, not_below, owner_owns, paired_with_some, same_count, shorter_above, walked_alike}
-use Rattle.domain_checker.specs.HashedReading.{Encloser, IsDenial, IsEncloser, IsFoundEncloser, IsLookedUp, IsNextHash, IsOfName, IsUnmatched, IsWalked}
+use Rattle.domain_checker.specs.HashedReading.{Encloser, DeniesName, IsEncloser, IsFoundEncloser, IsLookedUp, IsNextHash, IsOfName, IsUnmatched, IsWalked}
 use Rattle.domain_checker.specs.HashedReading.{encloser_is_cut, found_verdict, hash_cover_verdict, is_none, next_cover, own_verdict, tells_cut}
-use Rattle.domain_checker.specs.HashedVerdict.{ChainFacts, ChainsAreKnown, HasHashedProof, HashedRecords, IsFirst, IsFirstRefusal, IsHashedProved}
+use Rattle.domain_checker.specs.HashedVerdict.{ChainFacts, ChainsAreKnown, HasHashedProof, HashedRecords, AreUnmatchedBelow, IsFirstRefusal, IsHashedProved}
 use Rattle.domain_checker.specs.HashedVerdict.{chain_records, first_cover, first_match, hashed_proved_verdict, hashed_zone_verdict, is_below_chain_cut}
 use Rattle.domain_checker.specs.HashedVerdict.{is_covered, is_hash_cover, is_hash_match, is_matched, is_ok_with, is_spelling, is_told_cut, missing_verdict}
 use Rattle.domain_checker.specs.{HashedVerdict.{next_closer, owner_hash, proves, same_parameters}, Verdict.{IsHashedAlike, IsWithin, closest_encloser}}
@@ -15,8 +15,8 @@ use Rattle.domain_codecs.specs.{Base32.base32_lower, Codec.IsBase32}
 use Rattle.domain_names.specs.{Name.{IsName, Label, Name, is_at_or_below, is_strictly_below, last_labels, lowered, same_name, wire_of}, Wire.IsWire}
 use Rattle.domain_names.specs.Wire.{labels_of}
 use Rattle.domain_nsec3.{proofs.ChainLemmas.hash_same, specs.Chain.{ChainConfig, Hash, HashedLink, HashedName, IsHashedChain, IsOfChain, Parameters, cycle}}
-use Rattle.domain_nsec3.specs.Chain.{ends, ends_of, hash_name, hashed_owner, is_chain_name, is_empty, is_original_owner, nsec3_lists, original_owners}
-use Rattle.domain_nsec3.specs.Meaning.{AreAlone, IsAlone, IsMatchedOrCoveredOnce, IsNextCloser, IsRecordOf, octets_before}
+use Rattle.domain_nsec3.specs.Chain.{ends, ends_of, hash_name, hashed_owner, is_chain_name, is_empty_in_chain, is_original_owner, nsec3_lists, original_owners}
+use Rattle.domain_nsec3.specs.Meaning.{AreAlone, IsAlone, IsHashMatchedOrCoveredOnce, IsNextCloser, IsRecordOf, octets_before}
 use Rattle.domain_octets.{proofs.StdLemmas.or_true, specs.Octets.{AreOctets, Octets}}
 use Rattle.domain_zone.proofs.NameLemmas.{below_itself, below_length, below_longer, below_parent, below_trans, exists_same, one_lowered, same_itself}
 use Rattle.domain_zone.proofs.{NameLemmas.{same_length, same_lowered, strictly_from, strictly_longer}, PairLemmas.{In, Stands, all_in, any_none, find_none}}
@@ -89,7 +89,7 @@ module _ {L : List ZoneRecord} {a : Name} {config : ChainConfig} {links : List H
 
   -- of the hash of d, where no other name of the chain has it
   module _ (d : Name) (low : is_at_or_below d a ≡ true) (v : Octets) (alone : IsAlone L a config d v) where
-    one : IsMatchedOrCoveredOnce L a config links d v
+    one : IsHashMatchedOrCoveredOnce L a config links d v
     one = facts.means.denial.each d v low alone
 
     one_in : In one.link links
@@ -185,14 +185,14 @@ module _ (R : HashedRecords) where
 
   module _ (x : Name) where
     -- at the name itself none is passed
-    pub none_first : IsFirst R x x
+    pub none_first : AreUnmatchedBelow R x x
     none_first y above below = let l = strictly_longer y x below in let m = below_length x y above in absurd (omega arith)
 
     -- what is known of a name that the way comes to, by the hash of the next closer name
     pub record IsPassedTo (left : Name) (next : Option Octets) : Type 0 where
       pub above : is_at_or_below x left ≡ true
       pub within : is_at_or_below left R.apex ≡ true
-      pub first : IsFirst R x left
+      pub first : AreUnmatchedBelow R x left
       pub closes : IsNextHash R.hash x left next
 
     abbrev pub IsPassed : Name → Octets → Type 0
@@ -215,7 +215,7 @@ module _ (R : HashedRecords) where
     pub record IsMissed (left : Name) (cover : Option HashedLink) : Type 0 where
       pub above : is_at_or_below x left ≡ true
       pub within : is_at_or_below left R.apex ≡ true
-      pub first : IsFirst R x left
+      pub first : AreUnmatchedBelow R x left
       pub value : Octets
       pub known : hash_name R.hash left ≡ Ok value
       pub none : first_match R value ≡ None
@@ -397,7 +397,7 @@ module _ {L : List ZoneRecord} {a : Name} {config : ChainConfig} {links : List H
       ap (λ o. is_none (types_of o)) m.1 ∙ none_given (nsec3_lists L a config x) (facts.gives (nsec3_lists L a config x))
       ∙ ap not (any_listed L a config x m.0)
 
-  pub cover_denies : is_hash_cover a config.parameters v k ≡ true → IsDenial L a config x k
+  pub cover_denies : is_hash_cover a config.parameters v k ≡ true → DeniesName L a config x k
   cover_denies h = record {
     absent = facts.exist x low ∙ covered_never facts x low v alone k there h;
     flags = (told_at facts k (within facts x low v alone k there)).1;
@@ -607,7 +607,7 @@ module _ {L : List ZoneRecord} {a : Name} {config : ChainConfig} {links : List H
         at_cover c =
             let d = known_of_first.denied c in
             let g = known_of_first.gone c.other c.uncut d.0 in
-            let other = (or_parts (is_original_owner L a config x) (is_empty L a config x) (sym (facts.exist x low) ∙ g.gone)).0 in
+            let other = (or_parts (is_original_owner L a config x) (is_empty_in_chain L a config x) (sym (facts.exist x low) ∙ g.gone)).0 in
             rw (d.0.matched, d.0.asked ∙ c.other, d.0.cut ∙ c.uncut, d.0.next ∙ c.covered, g.uncut, other, g.gone, d.1, d.0.labels, low) refl
 
     module _ (t : ℕ) (bound : t < 65536) where

@@ -3,7 +3,7 @@ use native.Mathlib.Numerals.{unary_clauses}
 use Rattle.domain_checker.proofs.HashedVerdictLemmas.{IsReached}
 use Rattle.domain_checker.specs.HashedIndex.{AreApart, IsFoundAmong, IsInGapOf, IsSearched, PlacedLink, ends_before, ends_ring, hash_after}
 use Rattle.domain_checker.specs.HashedIndex.{is_in_gap, is_placed_cover, is_placed_match, is_told, placed_links}
-use Rattle.domain_checker.specs.{HashedReading.IsFound, HashedVerdict.{HashedRecords, owner_hash}}
+use Rattle.domain_checker.specs.{HashedReading.IsHashFound, HashedVerdict.{HashedRecords, owner_hash}}
 use Rattle.domain_names.specs.Name.{Name}
 use Rattle.domain_nsec3.specs.{Chain.{HashedLink, Parameters}, Meaning.octets_before}
 use Rattle.domain_octets.specs.Octets.{Octets}
@@ -57,7 +57,7 @@ module _ (a : Name) (p : Parameters) (q : Octets → HashedLink → Bool) where
   find_placed (k ∷ ks) = grind (arith, common_steps, (find_placed ks))
 
 pub found_in_links : (a : Name) (p : Parameters) (listed : List HashedLink) (v : Octets) (matched covered : Option HashedLink)
-    → IsFoundAmong (placed_links a p listed) v matched covered → IsFound a p listed v matched covered
+    → IsFoundAmong (placed_links a p listed) v matched covered → IsHashFound a p listed v matched covered
 found_in_links a p listed v matched covered found = record {
   matching = found.matching ∙ sym (find_placed a p (λ h k. matches octets_before h v) listed);
   covering = λ none. found.covering none ∙ sym (find_placed a p (λ h k. covers octets_before h k.next v) listed);

@@ -1,11 +1,13 @@
 -- Closest enclosers, records that are alike, and what is known of the records of an NSEC chain: what they say of names is what they prove.
 use Rattle.domain_base.specs.Types.{ns}
 use Rattle.domain_bitmap.specs.{Bitmap.bitmap_octets, Blocks.contains_type}
-use Rattle.domain_checker.specs.{HashedReading.{Encloser, IsFoundEncloser, IsWalked, found_verdict, next_cover}, HashedVerdict.{HashedRecords, IsFirst}}
+use Rattle.domain_checker.specs.HashedReading.{Encloser, IsFoundEncloser, IsWalked, found_verdict, next_cover}
+use Rattle.domain_checker.specs.HashedVerdict.{HashedRecords, AreUnmatchedBelow}
 use Rattle.domain_checker.specs.HashedVerdict.{chain_records, first_cover, first_match, hash_in, hashed_proved_verdict, is_below_chain_cut, is_covered}
 use Rattle.domain_checker.specs.HashedVerdict.{is_hash_cover, is_hash_match, is_matched, is_spelling, next_closer, owner_hash, read_label, same_parameters}
 use Rattle.domain_checker.specs.{HashedVerdict.with_links, Reading.{HasRead, IsChecked, cover_verdict, is_at_cut, is_cover, is_match, list_verdict}}
-use Rattle.domain_checker.specs.{Reading.{match_verdict, reading, verdict_of_both}, Verdict.{ArePaired, HasProof, IsAlike, IsHashedAlike, IsPairedIn, IsProved}}
+use Rattle.domain_checker.specs.Reading.{match_verdict, verdict_of_list, verdict_of_both}
+use Rattle.domain_checker.specs.Verdict.{ArePaired, HasProof, IsSameLink, IsHashedAlike, IsPairedIn, IsProved}
 use Rattle.domain_checker.specs.Verdict.{IsWithin, NsecChainsAreKnown, NsecFacts, closest_encloser, has_match_or_cover, is_inside, proved_verdict, zone_verdict}
 use Rattle.domain_checker.specs.declared.{nsec.NsecCheck.NsecCheck, verdict.Verdict.{TheVariants.{NotProven, OutsideZone}, Verdict}}
 use Rattle.domain_codecs.specs.Codec.{base32_value}
@@ -213,14 +215,14 @@ pub shared_alike : (x y z : Name) → lowered y ≡ lowered z → shared x y ≡
 shared_alike [] y z e = refl
 shared_alike (l ∷ x) y z e = λ i. cond (lowered_below (e i) (lowered (l ∷ x))) (l ∷ x) (shared_alike x y z e i)
 
-module _ {k l : Link} (alike : IsAlike k l) where
+module _ {k l : Link} (alike : IsSameLink k l) where
   pub owners : lowered k.owner ≡ lowered l.owner
   owners = one_lowered k.owner l.owner alike.owner
 
   pub nexts : lowered k.next ≡ lowered l.next
   nexts = one_lowered k.next l.next alike.next
 
-module _ (a x : Name) (k l : Link) (alike : IsAlike k l) where
+module _ (a x : Name) (k l : Link) (alike : IsSameLink k l) where
   pub is_match_alike : is_match a x k ≡ is_match a x l
   is_match_alike = grind (arith, common_steps, before_left, before_right, (owners alike), (nexts alike))
 
@@ -233,24 +235,24 @@ module _ (a x : Name) (k l : Link) (alike : IsAlike k l) where
 -- ---- lists
 
 module _ (a x : Name) (t : ℕ) where
-  both_alike : (m n c d : Option Link) → OptionsPaired IsAlike m n → OptionsPaired IsAlike c d → verdict_of_both a x t m c ≡ verdict_of_both a x t n d
+  both_alike : (m n c d : Option Link) → OptionsPaired IsSameLink m n → OptionsPaired IsSameLink c d → verdict_of_both a x t m c ≡ verdict_of_both a x t n d
   both_alike (Some k) (Some l) c d m h = grind (arith, common_steps, (owners m))
   both_alike None None (Some c) (Some d) m h = grind (arith, common_steps, (owners h), (nexts h), shared_alike)
   both_alike m n c d h i = grind (arith, common_steps)
 
-  pub reading_alike : (ks ls : List Link) → ArePaired IsAlike ks ls → reading a ks x t ≡ reading a ls x t
+  pub reading_alike : (ks ls : List Link) → ArePaired IsSameLink ks ls → verdict_of_list a ks x t ≡ verdict_of_list a ls x t
   reading_alike ks ls h =
-      let matching = find_alike IsAlike _ (is_match_alike a x) ks ls h in
-      let covering = find_alike IsAlike _ (is_cover_alike a x) ks ls h in
+      let matching = find_alike IsSameLink _ (is_match_alike a x) ks ls h in
+      let covering = find_alike IsSameLink _ (is_cover_alike a x) ks ls h in
       λ i. cond (is_at_or_below x a) (both_alike _ _ _ _ matching covering i) OutsideZone
 
-  pub proved_alike : (L : List ZoneRecord) (assume : Bool) (ks ls : List Link) → ArePaired IsAlike ks ls
+  pub proved_alike : (L : List ZoneRecord) (assume : Bool) (ks ls : List Link) → ArePaired IsSameLink ks ls
       → proved_verdict L a assume ks x t ≡ proved_verdict L a assume ls x t
   proved_alike L assume ks ls h = grind (arith, common_steps, any_alike, says_alike)
 
 -- records of a list are, but for these, records of it
-pub contained_alike : (links ks : List Link) → All (Contains links) ks → All (IsPairedIn IsAlike links) ks
-contained_alike = paired_in IsAlike (λ k. record { owner = same_itself k.owner k.owner refl; next = same_itself k.next k.next refl; bits = refl })
+pub contained_alike : (links ks : List Link) → All (Contains links) ks → All (IsPairedIn IsSameLink links) ks
+contained_alike = paired_in IsSameLink (λ k. record { owner = same_itself k.owner k.owner refl; next = same_itself k.next k.next refl; bits = refl })
 
 -- ---- what NSEC3 records say
 
@@ -310,7 +312,7 @@ module _ (R : HashedRecords) (ls : List HashedLink) (alike : ArePaired IsHashedA
   pub covering : (v : Octets) → OptionsPaired IsHashedAlike (first_cover R v) (first_cover S v)
   covering v = find_alike IsHashedAlike (is_hash_cover R.apex R.parameters v) (λ k l h. hash_cover_alike R.apex R.parameters k l h v) R.links ls alike
 
-  pub first_alike : (x d : Name) → IsFirst R x d → IsFirst S x d
+  pub first_alike : (x d : Name) → AreUnmatchedBelow R x d → AreUnmatchedBelow S x d
   first_alike x d first = λ y up below. let f = first y up below in (f.0, f.1, sym (matched_alike y) ∙ f.2)
 
   -- the first match in the one list, and in the other
@@ -575,16 +577,16 @@ read_by low has said zone f g = grind (arith, common_steps)
 
 -- what records of a chain say is what they prove, of every name and type
 reading_of : {L : List ZoneRecord} {a : Name} {assume : Bool} {links : List Link} → NsecFacts L a (config_with false assume) links → (listed : List Link)
-    → All (Contains links) listed → (x : Name) (t : ℕ) → t < 65536 → reading a listed x t ≡ proved_verdict L a assume listed x t
+    → All (Contains links) listed → (x : Name) (t : ℕ) → t < 65536 → verdict_of_list a listed x t ≡ proved_verdict L a assume listed x t
 reading_of {L} {a} {assume} {links} facts listed among x t b =
     read_by (is_at_or_below x a) (has_match_or_cover listed x) (list_verdict a listed x t) (zone_verdict L a assume x t)
     (λ low. list_says facts listed (stands_all links listed among) x (verdict_of_both a x t) _ (λ k i m. matched facts k i x m t b)
     (λ k s c. covers_told facts k s x low c t))
     (λ out. rw out refl)
 
-reading_proved : NsecChainsAreKnown → (listed : List Link) (a x : Name) (t : ℕ) → t < 65536 → IsProved listed a x t (reading a listed x t)
+reading_proved : NsecChainsAreKnown → (listed : List Link) (a x : Name) (t : ℕ) → t < 65536 → IsProved listed a x t (verdict_of_list a listed x t)
 reading_proved knows listed a x t b L config links keeps order chain among =
-    let some = paired_with_some IsAlike links listed among in
+    let some = paired_with_some IsSameLink links listed among in
     reading_alike a x t listed some.some some.alike
     ∙ reading_of (facts_keeping knows L a config links keeps order chain) some.some (All-from_recursion (Contains links) some.some some.among) x t b
     ∙ sym (proved_alike a x t L config.assume_dnskeys_will_be_added listed some.some some.alike)
@@ -593,17 +595,17 @@ reading_proved knows listed a x t b L config links keeps order chain among =
 
 module _ (a : Name) (listed : List Link) (x : Name) (t : ℕ) where
   -- there is no verdict without a record that matches or covers the name
-  has_proof : is_at_or_below x a ≡ true → reading a listed x t ≢ NotProven → HasProof listed a x
+  has_proof : is_at_or_below x a ≡ true → verdict_of_list a listed x t ≢ NotProven → HasProof listed a x
   has_proof low = rw low
       (either_found (λ m c. verdict_of_both a x t m c ≢ NotProven → HasProof listed a x) (find (is_match a x) listed) (find (is_cover a x) listed)
       (λ e f n. absurd (n refl)) (λ k e n. grind (arith, common_steps, in_any, (find_some (is_match a x) listed k e)))
       (λ k e n. grind (arith, common_steps, in_any, (find_some (is_cover a x) listed k e))))
 
   -- a closest encloser has no more labels than the name
-  reading_within : IsWithin (length x) (reading a listed x t)
+  reading_within : IsWithin (length x) (verdict_of_list a listed x t)
   reading_within = grind (arith, common_steps, choose_by, either_found, shared_within)
 
-pub reading_checked : NsecChainsAreKnown → (listed : List Link) (a x : Name) (t : ℕ) → t < 65536 → IsChecked listed a x t (reading a listed x t)
+pub reading_checked : NsecChainsAreKnown → (listed : List Link) (a x : Name) (t : ℕ) → t < 65536 → IsChecked listed a x t (verdict_of_list a listed x t)
 reading_checked knows listed a x t b = record {
   zone = reading_proved knows listed a x t b;
   proof = has_proof a listed x t;

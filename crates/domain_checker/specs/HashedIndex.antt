@@ -6,7 +6,7 @@ use Rattle.domain_octets.specs.Octets.{Octets}
 use Rattle.domain_names.specs.Name.{Name, is_at_or_below}
 use Rattle.domain_zone.specs.Covering.{covers, matches, matches_or_covers}
 use Rattle.domain_nsec3.specs.{Chain.{HashedLink, Parameters}, Meaning.octets_before, View.{HasherAnswer, as_hashed_link}}
-use Rattle.domain_checker.specs.HashedVerdict.{HashedRecords, IsFirst, links_with, owner_hash}
+use Rattle.domain_checker.specs.HashedVerdict.{HashedRecords, AreUnmatchedBelow, links_with, owner_hash}
 use Rattle.domain_checker.specs.{HashedReading.{Encloser, IsFoundEncloser, encloser_of}, declared.index.{Nsec3Search.Nsec3Search, Placed.Placed}}
 use Rattle.domain_checker.specs.declared.index.Nsec3Search.TheVariants.{Found, Unmatched, TooManyNames}
 
@@ -109,7 +109,7 @@ pub record IsPast (R : HashedRecords) (x : Name) (names : ℕ) : Type 0 where
   pub above : is_at_or_below x next ≡ true
   pub within : is_at_or_below next R.apex ≡ true
   pub counts : length next + names ≡ length x
-  pub first : IsFirst R x next
+  pub first : AreUnmatchedBelow R x next
 
 -- the names from x to the closest encloser, or else to the apex, are no more than `names`
 abbrev pub IsInReach : Name → Name → ℕ → Option Encloser → Type 0

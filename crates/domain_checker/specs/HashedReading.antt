@@ -17,16 +17,16 @@ use Rattle.domain_chain_rdata.specs.Rdata.{is_opt_out}
 -- ---- What one pass over NSEC3 records finds for a hash; a is the apex.
 
 -- the match that was found; the cover that was found, which only counts without a match
-abbrev pub found_match : {O N : Type 0} → (N → Name) → Nsec3Found O N → Option HashedLink
-found_match labels (Match k) = Some (as_hashed_link labels k.now)
-found_match labels (NoMatch cover) = None
+abbrev pub found_hash_match : {O N : Type 0} → (N → Name) → Nsec3Found O N → Option HashedLink
+found_hash_match labels (Match k) = Some (as_hashed_link labels k.now)
+found_hash_match labels (NoMatch cover) = None
 
-abbrev pub found_cover : {O N : Type 0} → (N → Name) → Nsec3Found O N → Option HashedLink
-found_cover labels (Match k) = None
-found_cover labels (NoMatch cover) = option_map (λ k. as_hashed_link labels k.now) cover
+abbrev pub found_hash_cover : {O N : Type 0} → (N → Name) → Nsec3Found O N → Option HashedLink
+found_hash_cover labels (Match k) = None
+found_hash_cover labels (NoMatch cover) = option_map (λ k. as_hashed_link labels k.now) cover
 
 -- the first match of the hash v or, if there is none, the first cover
-pub record IsFound (a : Name) (p : Parameters) (listed : List HashedLink) (v : Octets)
+pub record IsHashFound (a : Name) (p : Parameters) (listed : List HashedLink) (v : Octets)
     (matched covered : Option HashedLink) : Type 0 where
   pub matching : matched ≡ find (is_hash_match a p v) listed
   pub covering : matched ≡ None → covered ≡ find (is_hash_cover a p v) listed
@@ -36,7 +36,7 @@ pub record IsLookedUp (R : HashedRecords) (wire : Octets) (matched covered : Opt
     : Type 0 where
   pub value : Octets
   pub known : R.hash wire ≡ Ok value
-  pub found : IsFound R.apex R.parameters R.links value matched covered
+  pub found : IsHashFound R.apex R.parameters R.links value matched covered
 
 -- ---- What NSEC3 records say of the closest encloser of a name x (RFC 5155, section 8.3); a is the
 -- apex.
@@ -110,7 +110,7 @@ pub record IsOfName (L : List ZoneRecord) (a : Name) (config : ChainConfig) (x :
   pub cut : tells_cut a x k ≡ is_zone_cut L a x
 
 -- the record denies x, which does not exist, and has the flags of the chain
-pub record IsDenial (L : List ZoneRecord) (a : Name) (config : ChainConfig) (x : Name)
+pub record DeniesName (L : List ZoneRecord) (a : Name) (config : ChainConfig) (x : Name)
     (k : HashedLink) : Type 0 where
   pub absent : exists_over (original_owners L a config) a x ≡ false
   pub flags : k.flags ≡ config.flags

@@ -7,7 +7,7 @@ use Rattle.domain_octets.specs.Octets.{Octets, AreOctets}
 use Rattle.domain_names.specs.Name.{same_name, is_at_or_below, is_strictly_below, last_labels, Label, Name}
 use Rattle.domain_zone.specs.{Covering.{matches, covers}, Enclosers.exists_over, Zone.{ZoneRecord, is_zone_cut}}
 use Rattle.domain_nsec3.specs.Chain.{HashedLink, IsHashedChain, Parameters, ChainConfig, Hash, HashAnswer, hash_name, is_original_owner}
-use Rattle.domain_nsec3.specs.{Chain.{nsec3_lists, original_owners, is_chain_name}, Meaning.{octets_before, AreAlone, MeansTheZone}}
+use Rattle.domain_nsec3.specs.{Chain.{nsec3_lists, original_owners, is_chain_name}, Meaning.{octets_before, AreAlone, HashedMeansTheZone}}
 use Rattle.domain_nsec3.specs.{View.{HasherAnswer, hash_by, hashed_links_of, parameters_of}, declared.nsec3.Nsec3Records.Nsec3Records}
 use Rattle.domain_base.specs.Types.{ns}
 use Rattle.domain_bitmap.specs.{Blocks.{contains_type, types_below, types_of}, Bitmap.bitmap_octets}
@@ -167,8 +167,8 @@ IsHashedProved R x t verdict =
 -- ---- any list of records
 
 -- for each name from x up to d, d not included, the hasher has a hash, and no record matches it
-abbrev pub IsFirst : HashedRecords → Name → Name → Type 0
-IsFirst R x d =
+abbrev pub AreUnmatchedBelow : HashedRecords → Name → Name → Type 0
+AreUnmatchedBelow R x d =
     (y : Name) → is_at_or_below x y ≡ true → is_strictly_below y d ≡ true
     → (v : Octets) × (hash_name R.hash y ≡ Ok v) × (is_matched R y ≡ false)
 
@@ -177,7 +177,7 @@ pub record IsFirstMatched (R : HashedRecords) (x d : Name) : Type 0 where
   pub above : is_at_or_below x d ≡ true
   pub within : is_at_or_below d R.apex ≡ true
   pub found : is_matched R d ≡ true
-  pub first : IsFirst R x d
+  pub first : AreUnmatchedBelow R x d
 
 -- d is not the apex, and the first record that matches it lists NS
 abbrev pub is_told_cut : HashedRecords → Name → Bool
@@ -201,7 +201,7 @@ pub record IsFirstRefusal (R : HashedRecords) (x : Name) (reason : ℕ) : Type 0
   pub above : is_at_or_below x name ≡ true
   pub within : is_at_or_below name R.apex ≡ true
   pub refused : hash_name R.hash name ≡ Err reason
-  pub first : IsFirst R x name
+  pub first : AreUnmatchedBelow R x name
 
 -- ---- The laws of NSEC3 chains, of their names and of Base 32, for each chain.
 
@@ -209,7 +209,7 @@ pub record IsFirstRefusal (R : HashedRecords) (x : Name) (reason : ℕ) : Type 0
 pub record ChainFacts (L : List ZoneRecord) (a : Name) (config : ChainConfig)
     (links : List HashedLink) : Type 0 where
   pub chain : IsHashedChain L a config links
-  pub means : MeansTheZone L a config links
+  pub means : HashedMeansTheZone L a config links
   pub exist : (x : Name) → is_at_or_below x a ≡ true
       → exists_over (original_owners L a config) a x ≡ is_chain_name L a config x
   pub left_out : (c : Name) → is_zone_cut L a c ≡ true → is_original_owner L a config c ≡ false

@@ -47,8 +47,8 @@ list_verdict a listed x t =
     verdict_of_both a x t (find (is_match a x) listed) (find (is_cover a x) listed)
 
 -- what a list of records says of any name
-abbrev pub reading : Name → List Link → Name → ℕ → Verdict
-reading a listed x t = if is_at_or_below x a then list_verdict a listed x t else OutsideZone
+abbrev pub verdict_of_list : Name → List Link → Name → ℕ → Verdict
+verdict_of_list a listed x t = if is_at_or_below x a then list_verdict a listed x t else OutsideZone
 
 -- the contract of the verdict on a list of records
 pub record IsChecked (listed : List Link) (a x : Name) (t : ℕ) (verdict : Verdict) : Type 0 where
@@ -59,7 +59,7 @@ pub record IsChecked (listed : List Link) (a x : Name) (t : ℕ) (verdict : Verd
   -- matches or covers it
   pub proof : is_at_or_below x a ≡ true → verdict ≢ NotProven → HasProof listed a x
   -- the verdict is what the first match says, or else the first cover
-  pub exact : verdict ≡ reading a listed x t
+  pub exact : verdict ≡ verdict_of_list a listed x t
   -- and a closest encloser has no more labels than the name
   pub within : IsWithin (length x) verdict
 

@@ -35,7 +35,7 @@ NsecChainsAreKnown =
 -- in either case. What the records prove does not depend on that.
 
 -- NSEC records with the same types, and the same owner and next name except for the case of letters
-pub record IsAlike (k l : Link) : Type 0 where
+pub record IsSameLink (k l : Link) : Type 0 where
   pub owner : same_name k.owner l.owner ≡ true
   pub next : same_name k.next l.next ≡ true
   pub bits : k.bits ≡ l.bits
@@ -106,7 +106,7 @@ abbrev pub IsProved : List Link → Name → Name → ℕ → Verdict → Type 0
 IsProved listed a x t verdict =
     (L : List ZoneRecord) (config : GenerateNsecConfig) (links : List Link)
     → config.occlude_below_dname ≡ false → OwnersNeverDescend L → IsChain L a config links
-    → All (IsPairedIn IsAlike links) listed
+    → All (IsPairedIn IsSameLink links) listed
     → verdict ≡ proved_verdict L a config.assume_dnskeys_will_be_added listed x t
 
 -- the owner and the next name are at or below the apex; other records are ignored

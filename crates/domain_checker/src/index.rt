@@ -9,7 +9,7 @@ ghost use Rattle.domain_checker.specs.HashedIndex.{ends_before, ends_ring, hash_
 ghost use Rattle.domain_checker.specs.HashedIndex.{is_placed_cover, is_placed_match, placed_links, placed_of};
 ghost use Rattle.domain_checker.specs.HashedIndex.{search_of, AreApart, IsFoundAmong, IsIndexOf, IsInGapOf};
 ghost use Rattle.domain_checker.specs.HashedIndex.{IsSearched};
-ghost use Rattle.domain_checker.specs.HashedReading.{encloser_of, found_cover, found_match, IsFound};
+ghost use Rattle.domain_checker.specs.HashedReading.{encloser_of, found_hash_cover, found_hash_match, IsHashFound};
 ghost use Rattle.domain_checker.specs.HashedReading.{IsFoundEncloser, IsHashedChecked, IsLookedUp};
 ghost use Rattle.domain_checker.specs.HashedVerdict.{links, parameters, IsFirstRefusal};
 ghost use Rattle.domain_checker.specs.declared.index.Nsec3Search.TheVariants as search;
@@ -148,7 +148,7 @@ fn place_all<'a, O: Octets, N: ToName>(
 /// the records once.
 fn walk<'a, O: Octets, N: ToName>(placed: &[Placed<'a, O, N>], hash: &[u8]) -> Nsec3Found<'a, O, N>
     ensures { IsFoundAmong (map (placed_of N.labels) placed.now) hash.now
-        (found_match N.labels result) (found_cover N.labels result) }
+        (found_hash_match N.labels result) (found_hash_cover N.labels result) }
 {
     let mut cover = None;
     for one in placed {
@@ -196,7 +196,7 @@ fn only_of<'s, 'a, O: Octets, N: ToName>(
 /// Returns what one record says of a hash that no other record matches or covers.
 fn told_by<'a, O: Octets, N: ToName>(one: &Placed<'a, O, N>, hash: &[u8]) -> Nsec3Found<'a, O, N>
     ensures { IsFoundAmong (placed_of N.labels one.now ∷ []) hash.now
-        (found_match N.labels result) (found_cover N.labels result) }
+        (found_hash_match N.labels result) (found_hash_cover N.labels result) }
 {
     if one.is_match(hash) {
         return Nsec3Found::Match(one.nsec3);
@@ -211,7 +211,7 @@ fn search<'a, O: Octets, N: ToName>(
 ) -> Nsec3Found<'a, O, N>
     requires { AreApart (map (placed_of N.labels) placed.now) }
     ensures { IsFoundAmong (map (placed_of N.labels) placed.now) hash.now
-        (found_match N.labels result) (found_cover N.labels result) }
+        (found_hash_match N.labels result) (found_hash_cover N.labels result) }
 {
     match only_of(placed, hash) {
         Some(one) => told_by(one, hash),
@@ -310,8 +310,8 @@ impl<'a, O: Octets, N: ToName> Nsec3Index<'a, O, N> {
     /// Returns what the records say of a hash: the first that matches it or, if none does, the
     /// first that covers it.
     pub fn find(&self, hash: &[u8]) -> Nsec3Found<'a, O, N>
-        ensures { IsFound self.now.apex self.now.parameters self.now.links hash.now
-            (found_match N.labels result) (found_cover N.labels result) }
+        ensures { IsHashFound self.now.apex self.now.parameters self.now.links hash.now
+            (found_hash_match N.labels result) (found_hash_cover N.labels result) }
     {
         if self.apart {
             search(&self.placed, hash)
@@ -328,7 +328,7 @@ impl<'a, O: Octets, N: ToName> Nsec3Index<'a, O, N> {
         hasher: &H,
     ) -> Result<Nsec3Found<'a, O, N>, Nsec3HashError>
         ensures ok { IfOk result (λ found. IsLookedUp (indexed_by (H.answer hasher.now) self.now)
-            wire.now (found_match N.labels found) (found_cover N.labels found)) }
+            wire.now (found_hash_match N.labels found) (found_hash_cover N.labels found)) }
         ensures err { IfErr result (IsNoHash
             (λ n. hash_by (H.answer hasher.now) self.now.parameters wire.now ≡ Err n)
             (H.takes_memory hasher.now)) }
@@ -353,7 +353,7 @@ impl<'a, O: Octets, N: ToName> Nsec3Index<'a, O, N> {
     ) -> Result<Nsec3Found<'a, O, N>, Nsec3HashError>
         ensures found { IfOk result (λ found. IsLookedUp (indexed_by (H.answer hasher.now) self.now)
             (wire_of (lowered (M.labels name.now)))
-            (found_match N.labels found) (found_cover N.labels found)) }
+            (found_hash_match N.labels found) (found_hash_cover N.labels found)) }
         ensures err { IfErr result (IsNoHash (λ n.
             hash_name (hash_by (H.answer hasher.now) self.now.parameters) (M.labels name.now)
             ≡ Err n) (H.takes_memory hasher.now)) }

@@ -6,12 +6,12 @@ ghost use Rattle.domain_zone.specs.{Enclosers.{exists_over, IsClosestEncloser}, 
 ghost use Rattle.domain_nsec.specs.{Chain.{IsChain, Link}, declared.config.GenerateNsecConfig.GenerateNsecConfig};
 ghost use Rattle.domain_nsec3.specs.{Chain.{HashedLink, IsHashedChain, ChainConfig}, Meaning.AreAlone};
 ghost use Rattle.domain_nsec3.specs.Meaning.{IsAlone};
-ghost use Rattle.domain_checker.specs.Verdict.{ArePaired, IsAlike, IsHashedAlike, NsecChainsAreKnown};
+ghost use Rattle.domain_checker.specs.Verdict.{ArePaired, IsSameLink, IsHashedAlike, NsecChainsAreKnown};
 ghost use Rattle.domain_checker.specs.Verdict.{closest_encloser, proved_verdict, zone_verdict};
-ghost use Rattle.domain_checker.specs.HashedReading.{IsDenial, IsOfName, IsWalked, WalksAreProved};
+ghost use Rattle.domain_checker.specs.HashedReading.{DeniesName, IsOfName, IsWalked, WalksAreProved};
 ghost use Rattle.domain_checker.specs.HashedVerdict.{ChainsAreKnown, is_hash_cover, is_hash_match};
 ghost use Rattle.domain_checker.specs.HashedVerdict.{hashed_proved_verdict, hashed_zone_verdict, HashedRecords};
-ghost use Rattle.domain_checker.specs.{HashedVerdict.with_links, Reading.{IsChecked, reading}};
+ghost use Rattle.domain_checker.specs.{HashedVerdict.with_links, Reading.{IsChecked, verdict_of_list}};
 ghost use Rattle.domain_checker.specs.declared.verdict.Verdict.{Verdict, TheVariants.NotProven};
 
 use domain_bitmap::laws::built_bitmaps_give_their_types;
@@ -40,7 +40,7 @@ pub fn chains_are_known()
 #[tactic(auto, using(crate::proofs::MeantLemmas::reading_checked))]
 pub fn readings_are_proved()
     ensures { (listed : List Link) (a x : Name) (t : ℕ) → t < 65536
-        → IsChecked listed a x t (reading a listed x t) }
+        → IsChecked listed a x t (verdict_of_list a listed x t) }
 {
     chains_are_known();
 }
@@ -50,7 +50,8 @@ pub fn readings_are_proved()
 #[tactic(auto, using(crate::proofs::MeantLemmas::reading_alike))]
 pub fn readings_ignore_case_and_ttl()
     ensures { (listed other : List Link) (a x : Name) (t : ℕ)
-        → ArePaired IsAlike listed other → reading a listed x t ≡ reading a other x t }
+        → ArePaired IsSameLink listed other → verdict_of_list a listed x t ≡ verdict_of_list
+        a other x t }
 {}
 
 /// What NSEC3 records say does not depend on TTLs, classes and the case of letters. Nor does what
@@ -128,7 +129,7 @@ pub fn hashes_tell_of_names()
         (links : List HashedLink) → IsHashedChain L a config links
         → (x : Name) (v : Octets) → is_at_or_below x a ≡ true → IsAlone L a config x v
         → (k : HashedLink) → Contains links k → is_hash_cover a config.parameters v k ≡ true
-        → IsDenial L a config x k }
+        → DeniesName L a config x k }
 {
     hashed_chains_are_known();
 }

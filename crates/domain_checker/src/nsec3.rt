@@ -6,8 +6,8 @@ ghost use Rattle.domain_names.specs.Name.{is_at_or_below, lowered, wire_of};
 ghost use Rattle.domain_zone.specs.Covering.{covers};
 ghost use Rattle.domain_nsec3.specs.{Chain.{hash_name, IsNoHash}, Meaning.octets_before};
 ghost use Rattle.domain_nsec3.specs.View.{as_hashed_link, hashed_links_of, parameters_of};
-ghost use Rattle.domain_checker.specs.HashedReading.{encloser_is_cut, encloser_of, found_cover, found_match};
-ghost use Rattle.domain_checker.specs.HashedReading.{found_verdict, hash_cover_verdict, IsFound};
+ghost use Rattle.domain_checker.specs.HashedReading.{encloser_is_cut, encloser_of, found_hash_cover, found_hash_match};
+ghost use Rattle.domain_checker.specs.HashedReading.{found_verdict, hash_cover_verdict, IsHashFound};
 ghost use Rattle.domain_checker.specs.HashedReading.{IsFoundEncloser, IsHashedChecked, IsLookedUp};
 ghost use Rattle.domain_checker.specs.HashedVerdict.{hash_in, hash_with, hashed_records, is_spelling, owner_hash};
 ghost use Rattle.domain_checker.specs.HashedVerdict.{read_label, IsFirstRefusal};
@@ -148,9 +148,9 @@ fn find_hash<'a, A: ToName, O: Octets, N: ToName>(
     nsec3s: &'a [Nsec3Rr<O, N>],
     hash: &[u8],
 ) -> Nsec3Found<'a, O, N>
-    ensures { IsFound (A.labels apex.now) (parameters_of param.now)
+    ensures { IsHashFound (A.labels apex.now) (parameters_of param.now)
         (hashed_links_of N.labels nsec3s.now) hash.now
-        (found_match N.labels result) (found_cover N.labels result) }
+        (found_hash_match N.labels result) (found_hash_cover N.labels result) }
 {
     let mut cover = None;
     let mut buffer = [0; 63];
@@ -204,7 +204,7 @@ fn look_up<'a, A: ToName, O: Octets, N: ToName, H: Nsec3Hasher>(
 ) -> Result<Nsec3Found<'a, O, N>, Nsec3HashError>
     ensures ok { IfOk result (λ found. IsLookedUp
         (hashed_records (A.labels apex.now) N.labels (H.answer hasher.now) records.now) wire.now
-        (found_match N.labels found) (found_cover N.labels found)) }
+        (found_hash_match N.labels found) (found_hash_cover N.labels found)) }
     ensures err { IfErr result (IsNoHash (λ n.
         hash_with (H.answer hasher.now) records.now wire.now ≡ Err n) (H.takes_memory hasher.now)) }
 {
@@ -300,7 +300,7 @@ pub fn find_nsec3<'a, A: ToName, O: Octets, N: ToName, M: ToName, H: Nsec3Hasher
     ensures found { IfOk result (λ found. IsLookedUp
         (hashed_records (A.labels apex.now) N.labels (H.answer hasher.now) records.now)
         (wire_of (lowered (M.labels name.now)))
-        (found_match N.labels found) (found_cover N.labels found)) }
+        (found_hash_match N.labels found) (found_hash_cover N.labels found)) }
     ensures err { IfErr result (IsNoHash (λ n.
         hash_name (hash_with (H.answer hasher.now) records.now) (M.labels name.now) ≡ Err n)
         (H.takes_memory hasher.now)) }

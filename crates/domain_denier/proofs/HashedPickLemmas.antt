@@ -14,7 +14,8 @@ use Rattle.domain_nsec3.proofs.ChainLemmas.{hash_same}
 use Rattle.domain_nsec3.specs.Chain.{ChainRecords, HashedLink, ChainConfig, Hash, hash_name}
 use Rattle.domain_checker.{proofs.HashedVerdictLemmas.{IsMissed, IsPassed, heard, none_first, none_left, passed_on}, specs.HashedReading.{Encloser, IsEncloser}}
 use Rattle.domain_checker.proofs.MeantLemmas.{same_count}
-use Rattle.domain_checker.specs.{HashedReading.{IsNextHash, IsUnmatched, encloser_is_cut, next_cover}, HashedVerdict.{HashedRecords, IsFirst, chain_records}}
+use Rattle.domain_checker.specs.HashedReading.{IsNextHash, IsUnmatched, encloser_is_cut, next_cover}
+use Rattle.domain_checker.specs.HashedVerdict.{HashedRecords, AreUnmatchedBelow, chain_records}
 use Rattle.domain_checker.specs.HashedVerdict.{first_cover, first_match, is_hash_cover, is_hash_match, is_matched, is_ok_with, next_closer, with_links}
 use Rattle.domain_answer.{proofs.{EncloserLemmas.{parent_below, last_above}, HashedAnswerLemmas.last_low}, specs.ZoneAnswer.wildcard_below}
 use Rattle.domain_answer.specs.HashedReading.{wildcard_told, IsHashedRead, IsReadOn, IsWildcardRead, encloser_answer, next_answer, own_answer}
@@ -278,7 +279,7 @@ pub record IsEncloserAt (R : HashedRecords) (x : Name) (f : PlacedEncloser) : Ty
   pub counts : f.count ≡ length name
   pub above : is_at_or_below x name ≡ true
   pub within : is_at_or_below name R.apex ≡ true
-  pub first : IsFirst R x name
+  pub first : AreUnmatchedBelow R x name
   pub sole : IsSoleOf R name f.place true
   pub covers : IsCoverAt R x name f.cover
 

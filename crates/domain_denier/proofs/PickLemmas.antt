@@ -13,12 +13,14 @@ use Rattle.domain_checker.specs.Verdict.{NsecChainsAreKnown, NsecFacts, has_matc
 use Rattle.domain_answer.proofs.{ChainLemmas.{facts_leaving, given_never, match_own}, EncloserLemmas.{closest_last, free_parts, wildcard_low, answer_so}}
 use Rattle.domain_answer.specs.Reading.{IsAnswered, is_missing, knows_wildcard, proved_answer, IsNameAnswer, name_answer, absent_answer}
 use Rattle.domain_answer.specs.Reading.{listed_both, match_answer}
-use Rattle.domain_answer.specs.Reading.{is_usable, reading, tells_occluded, usable, usable_reading, wildcard_answer}
+use Rattle.domain_answer.specs.Reading.{is_usable, answer_of_list, tells_occluded, usable, usable_reading, wildcard_answer}
 use Rattle.domain_answer.specs.{ZoneAnswer.{is_at_parent, is_meta_type}, declared.answer.NameAnswer.TheVariants.Given}
 use Rattle.domain_answer.specs.{ZoneAnswer.{wildcard_below, encloser, name_exists, zone_answer}, declared.answer.Answer.{Answer, TheVariants.AtParent}}
 use Rattle.domain_answer.specs.declared.answer.{Answer.TheVariants.{NoCloserName, OutsideZone, NotProven}, NameAnswer.NameAnswer}
-use Rattle.domain_denier.{proofs.HashedPickLemmas.{record_there, contained}, specs.Picked.{IsOfWildcard, IsSilent, IsTold, Tells, IsOf, IsWhole, at_place}}
-use Rattle.domain_denier.specs.{Picked.{IsDenial, IsFound, AreEnds}, declared.{judged.OfWildcard.TheVariants.{Told, Untold}, nsec.NsecDenial.NsecDenial}}
+use Rattle.domain_denier.proofs.HashedPickLemmas.{record_there, contained}
+use Rattle.domain_denier.specs.Picked.{IsOfWildcard, IsSilent, IsProvenInside, Tells, MatchesOrCovers, IsWhole, at_place}
+use Rattle.domain_denier.specs.Picked.{IsDenial, MatchesOrCoversInZone, AreEnds}
+use Rattle.domain_denier.specs.declared.{judged.OfWildcard.TheVariants.{Told, Untold}, nsec.NsecDenial.NsecDenial}
 
 abbrev pub ends : Link → Name × Name
 ends k = (k.owner, k.next)
@@ -29,7 +31,8 @@ ends_at : (links : List Link) (owners : List Name) (a : Name) → map ends links
 ends_at links owners a are i k there = grind (arith, common_steps, pair_is, (slice_get-map ends links i))
 
 module _ (knows : NsecChainsAreKnown) (links : List Link) (x : Name) (low high : ℕ) (at_ends : AreEnds links x low high) (near : high - low ≤ 1) where
-  pub found : (L : List ZoneRecord) (a : Name) (config : GenerateNsecConfig) → IsWhole L a config links → is_at_or_below x a ≡ true → IsOf links low x
+  pub found : (L : List ZoneRecord) (a : Name) (config : GenerateNsecConfig) → IsWhole L a config links → is_at_or_below x a ≡ true
+      → MatchesOrCovers links low x
   found L a config whole under =
       let owners = unoccluded_owners config.occlude_below_dname L a in
       let names = whole.chain.names in
@@ -99,12 +102,12 @@ unmatched a x k e = grind (arith, common_steps, same_is)
 -- ---- what is said of a wildcard tells that the name is denied
 
 module _ (a w : Name) (n t : ℕ) where
-  pub told_wildcard : (listed : List Link) → IsTold (wildcard_answer a listed n w t)
+  pub told_wildcard : (listed : List Link) → IsProvenInside (wildcard_answer a listed n w t)
   told_wildcard listed = grind (arith, common_steps)
 
 -- so both forms of an answer of the name tell it
 pub told_whole : (a : Name) (listed : List Link) (x : Name) (t : ℕ) (whole : Answer) (told : NameAnswer) → IsNameAnswer whole a listed x t told
-    → Tells told → IsTold whole
+    → Tells told → IsProvenInside whole
 told_whole a listed x t whole told is tells = grind (arith, common_steps)
 
 -- ---- only of a name outside the zone is it said that it is
@@ -117,28 +120,28 @@ listed_inside a listed x t None (Some k) e =
     let told = told_wildcard a (wildcard_below (last_labels n x)) n t listed in grind (arith, common_steps)
 listed_inside a listed x t None None e = absurd (cc)
 
-pub outside_only : (a : Name) (listed : List Link) (x : Name) (t : ℕ) → reading a listed x t ≡ OutsideZone → is_at_or_below x a ≡ false
+pub outside_only : (a : Name) (listed : List Link) (x : Name) (t : ℕ) → answer_of_list a listed x t ≡ OutsideZone → is_at_or_below x a ≡ false
 outside_only a listed x t e = grind (arith, common_steps, listed_inside)
 
 -- of every other name something else is said
-pub said_inside : (a : Name) (listed : List Link) (x : Name) (t : ℕ) (told : NameAnswer) → told ≡ name_answer (reading a listed x t)
+pub said_inside : (a : Name) (listed : List Link) (x : Name) (t : ℕ) (told : NameAnswer) → told ≡ name_answer (answer_of_list a listed x t)
     → told ≢ Given OutsideZone → is_at_or_below x a ≡ true
 said_inside a listed x t told is some = grind (arith, common_steps)
 
 -- ---- one record
 
 -- without a record nothing is said of a name in the zone, or only that the parent zone answers
-none_told : (a x : Name) (t : ℕ) → IsTold (reading a [] x t) → ⊥
+none_told : (a x : Name) (t : ℕ) → IsProvenInside (answer_of_list a [] x t) → ⊥
 none_told a x t told = grind (arith, common_steps)
 
-none_denied : (a x : Name) (t n : ℕ) → reading a [] x t ≢ NoCloserName n
+none_denied : (a x : Name) (t n : ℕ) → answer_of_list a [] x t ≢ NoCloserName n
 none_denied a x t n e = grind (arith, common_steps)
 
 pub none_read : (a x : Name) (t : ℕ) → is_at_or_below x a ≡ true → is_at_parent a x t ≡ false → usable_reading a [] x t ≡ NotProven
 none_read a x t low parent = grind (arith, common_steps)
 
 -- where the wildcard is left to ask, the type is one that records have
-pub asks_of : (a : Name) (listed : List Link) (x : Name) (t n : ℕ) → reading a listed x t ≡ NoCloserName n → is_meta_type t ≡ false
+pub asks_of : (a : Name) (listed : List Link) (x : Name) (t n : ℕ) → answer_of_list a listed x t ≡ NoCloserName n → is_meta_type t ≡ false
 asks_of a listed x t n e = grind (arith, common_steps)
 
 module _ (a x : Name) (t : ℕ) (k : Link) where
@@ -146,15 +149,16 @@ module _ (a x : Name) (t : ℕ) (k : Link) where
   abbrev chosen : Bool → Bool → Bool → Bool → Bool → Answer
   chosen u p q m c = cond (not u) OutsideZone (cond p AtParent (cond q NotProven (listed_both a (k ∷ []) x t (cond m (Some k) None) (cond c (Some k) None))))
 
-  unproven : (u p q : Bool) → IsTold (chosen u p q false false) → ⊥
+  unproven : (u p q : Bool) → IsProvenInside (chosen u p q false false) → ⊥
   unproven u p q told = grind (arith, common_steps)
 
-  told_if : IsTold (reading a (k ∷ []) x t) → matches_or_covers before k.owner k.next x ≡ true
+  told_if : IsProvenInside (answer_of_list a (k ∷ []) x t) → matches_or_covers before k.owner k.next x ≡ true
   told_if told = grind (arith, common_steps, (silent_tests a x k), unproven, true_from_ne_false)
 
-  pub told_by_one : IsTold (usable_reading a (k ∷ []) x t) → matches_or_covers before k.owner k.next x ≡ true
+  pub told_by_one : IsProvenInside (usable_reading a (k ∷ []) x t) → matches_or_covers before k.owner k.next x ≡ true
   told_by_one =
-      usable_one a k (λ ls. IsTold (reading a ls x t) → matches_or_covers before k.owner k.next x ≡ true) told_if (λ told. absurd (none_told a x t told))
+      usable_one a k (λ ls. IsProvenInside (answer_of_list a ls x t) → matches_or_covers before k.owner k.next x ≡ true) told_if
+      (λ told. absurd (none_told a x t told))
 
   -- what leaves no more to ask than the wildcard, by the tests of the name
   chosen_parts : (u p q m c : Bool) (n : ℕ) → chosen u p q m c ≡ NoCloserName n
@@ -168,8 +172,8 @@ module _ (a x : Name) (t : ℕ) (k : Link) where
   chosen_parts true false false false true n e = grind (arith, common_steps)
 
   -- with another record, of another name, it says of the name what they say of the wildcard
-  both_read : (n : ℕ) → reading a (k ∷ []) x t ≡ NoCloserName n → (l : Link) → is_match a x l ≡ false
-      → reading a (k ∷ l ∷ []) x t ≡ wildcard_answer a (k ∷ l ∷ []) n (wildcard_below (last_labels n x)) t
+  both_read : (n : ℕ) → answer_of_list a (k ∷ []) x t ≡ NoCloserName n → (l : Link) → is_match a x l ≡ false
+      → answer_of_list a (k ∷ l ∷ []) x t ≡ wildcard_answer a (k ∷ l ∷ []) n (wildcard_below (last_labels n x)) t
   both_read n e l other =
       let N = length (longer (shared x k.owner) (shared x k.next)) in
       let q = chosen_parts (is_at_or_below x a) (is_at_parent a x t) (is_meta_type t) (is_match a x k) (is_cover a x k) n e in
@@ -178,12 +182,12 @@ module _ (a x : Name) (t : ℕ) (k : Link) where
 
   -- a record that denies the name counts
   denies_counts : (n : ℕ) → usable_reading a (k ∷ []) x t ≡ NoCloserName n → is_usable a k ≡ true
-  denies_counts n e = true_from_ne_false (is_usable a k) (λ u. none_denied a x t n ((λ i. reading a (cond (sym u i) (k ∷ []) []) x t) ∙ e))
+  denies_counts n e = true_from_ne_false (is_usable a k) (λ u. none_denied a x t n ((λ i. answer_of_list a (cond (sym u i) (k ∷ []) []) x t) ∙ e))
 
 -- ---- records at places of a chain
 
 module _ (links : List Link) (a x : Name) (t : ℕ) where
-  pub one_at : (p : ℕ) → p < length links → IsTold (usable_reading a (at_place links (Some p)) x t) → IsOf links p x
+  pub one_at : (p : ℕ) → p < length links → IsProvenInside (usable_reading a (at_place links (Some p)) x t) → MatchesOrCovers links p x
   one_at p inside told =
       let some = record_there links p inside in
       let here = ap option_to_list some.1 in grind (arith, common_steps, (told_by_one a x t some.0))
@@ -193,7 +197,7 @@ module _ (links : List Link) (a x : Name) (t : ℕ) where
       (apart : same_name l.owner x ≡ false) (w : Name) (w_is : w ≡ wildcard_below (last_labels n x))
       (silent : IsSilent a (usable a (at_place links (Some p))) w) (some : (m : ℕ) → wildcard_answer a (usable a (l ∷ [])) n w t ≢ NoCloserName m) where
     pub both_at : p < length links
-        → (wildcard_answer a (usable a (l ∷ [])) n w t ≡ usable_reading a (at_place links (Some p) ++ at_place links (Some q)) x t) × IsOf links q w
+        → (wildcard_answer a (usable a (l ∷ [])) n w t ≡ usable_reading a (at_place links (Some p) ++ at_place links (Some q)) x t) × MatchesOrCovers links q w
     both_at in_p =
         let first = record_there links p in_p in
         let k = first.0 in
@@ -273,7 +277,7 @@ module _ (knows : NsecChainsAreKnown) (links : List Link) (L : List ZoneRecord) 
   first_has : (y : Name) (k : Link) (more : List Link) → matches_or_covers before k.owner k.next y ≡ true → has_match_or_cover (k ∷ more) y ≡ true
   first_has y k more e = λ i. e i || has_match_or_cover more y
 
-  module _ (p : ℕ) (of : IsOf links p x) where
+  module _ (p : ℕ) (of : MatchesOrCovers links p x) where
     here : at_place links (Some p) ≡ of.link ∷ []
     here = ap option_to_list of.there
 
@@ -296,7 +300,7 @@ module _ (knows : NsecChainsAreKnown) (links : List Link) (L : List ZoneRecord) 
           let owners = unoccluded_owners true L a in
           ap (λ w. is_at_or_below w a) wildcard_is ∙ wildcard_low owners a x (encloser L a x) (closest_is owners a x (apex_exists facts) under)
 
-      module _ (q : ℕ) (of_w : IsOf links q (wildcard_below (last_labels count x))) where
+      module _ (q : ℕ) (of_w : MatchesOrCovers links q (wildcard_below (last_labels count x))) where
         there_w : at_place links (Some q) ≡ of_w.link ∷ []
         there_w = ap option_to_list of_w.there
 
@@ -331,7 +335,7 @@ module _ (knows : NsecChainsAreKnown) (links : List Link) (L : List ZoneRecord) 
 -- what is picked, as it is promised
 module _ (knows : NsecChainsAreKnown) (links : List Link) (a x : Name) (t : ℕ)
     (answered : (listed : List Link) → IsAnswered listed a x t (usable_reading a listed x t)) (under : is_at_or_below x a ≡ true) (p : ℕ) where
-  pub denied_by_one : p < length links → IsFound links p x → (answer : Answer) → usable_reading a (at_place links (Some p)) x t ≡ answer
+  pub denied_by_one : p < length links → MatchesOrCoversInZone links p x → (answer : Answer) → usable_reading a (at_place links (Some p)) x t ≡ answer
       → ((n : ℕ) → answer ≢ NoCloserName n) → IsDenial links a x t (record { answer = answer; of_name = Some p; of_wildcard = None })
   denied_by_one inside found answer is never = record {
     zone = λ L config whole.
@@ -343,8 +347,8 @@ module _ (knows : NsecChainsAreKnown) (links : List Link) (a x : Name) (t : ℕ)
     outside = λ e. absurd (false≢true (sym e ∙ under));
   }
 
-  pub denied_by_both : p < length links → IsFound links p x → (count : ℕ) → usable_reading a (at_place links (Some p)) x t ≡ NoCloserName count
-      → (q : ℕ) → q < length links → IsFound links q (wildcard_below (last_labels count x)) → (answer : Answer)
+  pub denied_by_both : p < length links → MatchesOrCoversInZone links p x → (count : ℕ) → usable_reading a (at_place links (Some p)) x t ≡ NoCloserName count
+      → (q : ℕ) → q < length links → MatchesOrCoversInZone links q (wildcard_below (last_labels count x)) → (answer : Answer)
       → answer ≡ usable_reading a (at_place links (Some p) ++ at_place links (Some q)) x t
       → IsDenial links a x t (record { answer = answer; of_name = Some p; of_wildcard = Some q })
   denied_by_both inside found count says q inside_q found_q answer exact = record {

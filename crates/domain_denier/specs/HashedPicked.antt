@@ -5,7 +5,7 @@ use Rattle.domain_names.specs.Name.{is_at_or_below, last_labels, lowered, same_n
 use Rattle.domain_hasher.specs.declared.error.Nsec3HashError.{Nsec3HashError}
 use Rattle.domain_zone.specs.Zone.{ZoneRecord}
 use Rattle.domain_nsec3.specs.Chain.{ChainRecords, HashedLink, IsHashedChain, ChainConfig, Hash, hash_name, Parameters}
-use Rattle.domain_checker.specs.HashedVerdict.{is_covered, is_matched, next_closer, IsFirst, HashedRecords, chain_records, with_links, is_hash_cover}
+use Rattle.domain_checker.specs.HashedVerdict.{is_covered, is_matched, next_closer, AreUnmatchedBelow, HashedRecords, chain_records, with_links, is_hash_cover}
 use Rattle.domain_checker.specs.{HashedVerdict.{IsFirstRefusal, is_hash_match}, HashedReading.{Encloser, encloser_is_cut, IsEncloser, IsUnmatched}}
 use Rattle.domain_answer.specs.HashedReading.{AreAskedAlone, hashed_proved_answer, tells_wildcard, hashed_encloser, hashed_zone_answer, IsHashedRead}
 use Rattle.domain_answer.specs.HashedReading.{encloser_answer, missing_closer, wildcard_told}
@@ -231,7 +231,7 @@ pub record IsReached (hash : Hash) (chain : ChainRecords) (x n : Name) (cover : 
   pub above : is_at_or_below x n ≡ true
   pub within : is_at_or_below n chain.param.owner ≡ true
   pub there : (place : ℕ) → cover ≡ Some place → place < length chain.links
-  pub first : IsOfZone hash chain → IsFirst (all_records hash chain) x n
+  pub first : IsOfZone hash chain → AreUnmatchedBelow (all_records hash chain) x n
   pub closes : IsOfZone hash chain → IsCoverAt (all_records hash chain) x n cover
 
 -- the name with f.count labels is reached, and a record matches it

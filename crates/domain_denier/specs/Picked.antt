@@ -25,7 +25,7 @@ pub record AreEnds (links : List Link) (x : Name) (low high : ℕ) : Type 0 wher
 -- 3.1.3).
 
 -- the link at this place matches or covers x
-pub record IsOf (links : List Link) (place : ℕ) (x : Name) : Type 0 where
+pub record MatchesOrCovers (links : List Link) (place : ℕ) (x : Name) : Type 0 where
   pub link : Link
   pub there : slice_get links place ≡ Some link
   pub says : matches_or_covers before link.owner link.next x ≡ true
@@ -54,10 +54,10 @@ pub record IsWhole (L : List ZoneRecord) (a : Name) (config : GenerateNsecConfig
   pub chain : IsChain L a config links
 
 -- for the chain of any zone that x is in, the link at this place matches or covers x
-abbrev pub IsFound : List Link → ℕ → Name → Type 0
-IsFound links place x =
+abbrev pub MatchesOrCoversInZone : List Link → ℕ → Name → Type 0
+MatchesOrCoversInZone links place x =
     (L : List ZoneRecord) (a : Name) (config : GenerateNsecConfig) → IsWhole L a config links
-    → is_at_or_below x a ≡ true → IsOf links place x
+    → is_at_or_below x a ≡ true → MatchesOrCovers links place x
 
 -- without the record of the name, nothing is proved; without that of the wildcard, only that the
 -- name does not exist
@@ -74,7 +74,7 @@ pub record IsDenial (links : List Link) (a x : Name) (t : ℕ) (d : NsecDenial) 
       → d.answer ≡ zone_answer L a config.assume_dnskeys_will_be_added x t
   -- for a name in the zone the first record matches or covers it, also if the parent zone answers
   pub own : (L : List ZoneRecord) (config : GenerateNsecConfig) → IsWhole L a config links
-      → is_at_or_below x a ≡ true → (place : ℕ) × (d.of_name ≡ Some place) × IsOf links place x
+      → is_at_or_below x a ≡ true → (place : ℕ) × (d.of_name ≡ Some place) × MatchesOrCovers links place x
   -- and each record is needed
   pub needed : (L : List ZoneRecord) (config : GenerateNsecConfig) → IsWhole L a config links
       → AreNeeded links a x t d
@@ -88,14 +88,14 @@ pub record IsDenial (links : List Link) (a x : Name) (t : ℕ) (d : NsecDenial) 
 -- ---- What an answer says of the records that it is from.
 
 -- a record matches or covers the name, which is inside the zone
-pub record IsTold (answer : Answer) : Type 0 where
+pub record IsProvenInside (answer : Answer) : Type 0 where
   pub inside : answer ≢ OutsideZone
   pub here : answer ≢ AtParent
   pub proven : answer ≢ NotProven
 
 -- the same, or the name is denied
 abbrev pub Tells : NameAnswer → Type 0
-Tells (Given answer) = IsTold answer
+Tells (Given answer) = IsProvenInside answer
 Tells (Absent n) = ⊤
 
 -- no record of the list matches or covers the wildcard w

@@ -3,7 +3,7 @@ ghost use Rattle.std.specs.Prelude.{◌≡◌, ◌<◌, ◌++◌, Some, length, 
 ghost use Rattle.domain_names.specs.Name.{last_labels};
 ghost use Rattle.domain_nsec.specs.Chain.{as_link};
 ghost use Rattle.domain_answer.specs.{Reading.{usable, usable_reading, IsNameAnswer}, ZoneAnswer.wildcard_below, declared.answer.Answer.TheVariants.NoCloserName};
-ghost use Rattle.domain_denier.specs.Picked.{IsOfWildcard, IsSilent, Tells, at_place, IsFound};
+ghost use Rattle.domain_denier.specs.Picked.{IsOfWildcard, IsSilent, Tells, at_place, MatchesOrCoversInZone};
 
 use crate::owner_keys::OwnerKeys;
 use crate::search::{place_of, suggested};
@@ -63,7 +63,7 @@ pub(crate) fn first_of<A: ToName, N: ToName, M: ToName>(
 ) -> (usize, NameAnswer)
     requires some { 0 < length chain.now }
     ensures inside { result.0 < length chain.now }
-    ensures found { IsFound chain.now result.0 (M.labels name.now) }
+    ensures found { MatchesOrCoversInZone chain.now result.0 (M.labels name.now) }
     ensures exact { IsNameAnswer (usable_reading (A.labels apex.now)
         (at_place chain.now (Some result.0)) (M.labels name.now) rtype) (A.labels apex.now)
         (usable (A.labels apex.now) (at_place chain.now (Some result.0))) (M.labels name.now) rtype
@@ -136,7 +136,7 @@ pub(crate) fn second_of<A: ToName, N: ToName, M: ToName>(
         (usable (A.labels apex.now) (at_place chain.now (Some first))) wildcard.now }
     requires wildcard { wildcard.now ≡ wildcard_below (last_labels count (M.labels name.now)) }
     ensures inside { result.0 < length chain.now }
-    ensures found { IsFound chain.now result.0 wildcard.now }
+    ensures found { MatchesOrCoversInZone chain.now result.0 wildcard.now }
     ensures exact { result.1 ≡ usable_reading (A.labels apex.now)
         (at_place chain.now (Some first) ++ at_place chain.now (Some result.0)) (M.labels name.now)
         rtype }

@@ -1,6 +1,6 @@
 //! The record of a chain that matches or covers a name.
 ghost use Rattle.std.specs.Prelude.{◌<◌, length, IfSome};
-ghost use Rattle.domain_denier.specs.Picked.{IsFound, AreEnds};
+ghost use Rattle.domain_denier.specs.Picked.{MatchesOrCoversInZone, AreEnds};
 
 use crate::owner_keys::OwnerKeys;
 use domain_base::ToName;
@@ -67,7 +67,7 @@ pub(crate) fn place_of<N: ToName, M: ToName>(
 ) -> usize
     requires some { 0 < length chain.now }
     ensures inside { result < length chain.now }
-    ensures of_name { IsFound chain.now result (M.labels name.now) }
+    ensures of_name { MatchesOrCoversInZone chain.now result (M.labels name.now) }
 {
     laws::chains_are_known();
     let (mut low, mut high) = tested(chain, suggested_ends(keys, name), name);

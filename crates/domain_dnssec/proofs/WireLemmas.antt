@@ -2,7 +2,7 @@
 use Rattle.std.proofs.{lemmas.Grind.common_steps, Common.{◌≡◌, ℕ, ◌+◌, ◌<◌, ◌≤◌, List, ◌∷◌, ◌++◌, length, take, get_or, arith, length-append}}
 use Rattle.std.specs.List.{flat_map}
 use Rattle.domain_fields.specs.Layout.{octets_of, Values}
-use Rattle.domain_chain_rdata.specs.Rdata.{hash_numbers, nsec3param}
+use Rattle.domain_chain_rdata.specs.Rdata.{hash_numbers, nsec3param_layout}
 use Rattle.domain_borrowed.specs.Data.{RawRecord}
 use Rattle.domain_dnssec.specs.{Wire.{HasLong, IsUncomposed}, declared.error.Error.Error}
 
@@ -12,7 +12,7 @@ pub onward : {T : Type 0} (octets : T → List ℕ) (old : List ℕ) (items : Li
 onward octets old items i d l = grind (arith, common_steps)
 
 -- NSEC3PARAM data are short
-pub param_short : (v : Values nsec3param) → length v.1 ≤ 255 → length (octets_of nsec3param v) ≤ 65535
+pub param_short : (v : Values nsec3param_layout) → length v.1 ≤ 255 → length (octets_of nsec3param_layout v) ≤ 65535
 unfolding octets_of
 param_short v salted = let c = length-append (octets_of hash_numbers v.0) (length v.1 ∷ v.1) in omega arith
 

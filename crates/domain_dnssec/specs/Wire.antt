@@ -3,12 +3,12 @@ use Rattle.std.specs.{Prelude.{◌≡◌, ◌⊎◌, ◌++◌, ◌<◌, length, 
 use Rattle.domain_octets.specs.Octets.{Octets}
 use Rattle.domain_nsec.specs.Chain.{Link}
 use Rattle.domain_nsec3.specs.Chain.{ChainRecords, ParamRecord}
-use Rattle.domain_borrowed.specs.Data.{RawRecord, nsec_record, nsec3_record, param_record, record_octets}
+use Rattle.domain_borrowed.specs.Data.{RawRecord, nsec_record, nsec3_record, param_record, raw_record_octets}
 use Rattle.domain_dnssec.specs.declared.error.Error.{Error, TheVariants.{LongRecordData, OutOfMemory}}
 
 -- the octets of the records of an NSEC chain, one after another
 abbrev pub nsecs_octets : List Link → Octets
-nsecs_octets = flat_map (λ k. record_octets (nsec_record k))
+nsecs_octets = flat_map (λ k. raw_record_octets (nsec_record k))
 
 -- the NSEC3PARAM record that a zone publishes: name servers ignore one with flags other than 0 (RFC
 -- 5155, section 4.1.2)
@@ -26,8 +26,8 @@ published r =
 -- its zone publishes
 abbrev pub nsec3s_octets : ChainRecords → Octets
 nsec3s_octets made =
-    flat_map (λ k. record_octets (nsec3_record k)) made.links
-    ++ record_octets (param_record (published made.param))
+    flat_map (λ k. raw_record_octets (nsec3_record k)) made.links
+    ++ raw_record_octets (param_record (published made.param))
 
 -- the data of one of these records have more than 65,535 octets, the most that the length field can
 -- hold

@@ -2,7 +2,7 @@
 ghost use Rattle.std.specs.Prelude.{◌≡◌, ℕ, All, false, true, List};
 ghost use Rattle.domain_record.specs.declared.record.Record.{Record};
 ghost use Rattle.domain_names.specs.Name.{Name};
-ghost use Rattle.domain_checker.specs.Verdict.{IsAlike, IsPairedIn, IsProved};
+ghost use Rattle.domain_checker.specs.Verdict.{IsSameLink, IsPairedIn, IsProved};
 ghost use Rattle.domain_checker.specs.declared.verdict.Verdict.{Verdict};
 ghost use Rattle.domain_nsec.specs.Chain.{Link};
 ghost use Rattle.domain_nsec.specs.declared.config.GenerateNsecConfig.{GenerateNsecConfig};
@@ -37,7 +37,7 @@ pub fn verdicts_tell_of_records<N: ToName, D: ZoneData + CanonicalOrd>()
         (links listed : List Link) (x : Name) (t : ℕ) (verdict : Verdict)
         → config.occlude_below_dname ≡ false
         → IsChainOf (seen N.labels D.rtype D.minimum D.canonical_cmp) given apex config links
-        → All (IsPairedIn IsAlike links) listed → IsProved listed apex x t verdict
+        → All (IsPairedIn IsSameLink links) listed → IsProved listed apex x t verdict
         → IsProvedOf (seen N.labels D.rtype D.minimum D.canonical_cmp) given apex config listed x t
         verdict }
     ensures all { (given : List (Record N D)) (apex : Name) (config : GenerateNsecConfig)
@@ -60,7 +60,7 @@ pub fn answers_tell_of_records<N: ToName, D: ZoneData + CanonicalOrd>()
         (links listed : List Link) (x : Name) (t : ℕ) (answer : Answer)
         → config.occlude_below_dname ≡ true
         → IsChainOf (seen N.labels D.rtype D.minimum D.canonical_cmp) given apex config links
-        → All (IsPairedIn IsAlike links) listed → IsAnswered listed apex x t answer
+        → All (IsPairedIn IsSameLink links) listed → IsAnswered listed apex x t answer
         → IsProvedAnswerOf (seen N.labels D.rtype D.minimum D.canonical_cmp) given apex config
         listed x t answer }
     ensures all { (given : List (Record N D)) (apex : Name) (config : GenerateNsecConfig)

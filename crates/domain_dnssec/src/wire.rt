@@ -2,7 +2,7 @@
 ghost use Rattle.std.specs.Prelude.{◌≡◌, ◌<◌, ◌++◌, length, IfErr, OnOk};
 ghost use Rattle.domain_nsec.specs.Chain.{as_link};
 ghost use Rattle.domain_nsec3.specs.View.{as_param_record};
-ghost use Rattle.domain_borrowed.specs.Data.{nsec_record, nsec3_record, param_record, record_octets};
+ghost use Rattle.domain_borrowed.specs.Data.{nsec_record, nsec3_record, param_record, raw_record_octets};
 ghost use Rattle.domain_dnssec.specs.Wire.{nsecs_octets, nsec3s_octets, published, HasLong, IsUncomposed};
 
 use crate::Error;
@@ -18,7 +18,7 @@ use std::alloc::Global;
 /// Appends an NSEC record.
 fn add_nsec(nsec: &BorrowedNsec<'_>, octets: &mut Vec<u8>) -> Result<(), Error>
     ensures ok { OnOk result (octets.new.items
-        ≡ octets.old.items ++ record_octets (nsec_record (as_link (λ n. n) nsec.now))) }
+        ≡ octets.old.items ++ raw_record_octets (nsec_record (as_link (λ n. n) nsec.now))) }
     ensures err { IfErr result (IsUncomposed
         (65535 < length (nsec_record (as_link (λ n. n) nsec.now)).«data».octets)) }
 {
@@ -55,7 +55,7 @@ pub fn compose_nsecs<N: ToName>(chain: &NsecChain<'_, N>, octets: &mut Vec<u8>) 
 /// Appends an NSEC3 record of class IN.
 fn add_nsec3(alloc: Global, nsec3: &BorrowedNsec3<'_>, octets: &mut Vec<u8>) -> Result<(), Error>
     ensures ok { OnOk result (octets.new.items
-        ≡ octets.old.items ++ record_octets (nsec3_record nsec3.now)) }
+        ≡ octets.old.items ++ raw_record_octets (nsec3_record nsec3.now)) }
     ensures err { IfErr result (IsUncomposed
         (65535 < length (nsec3_record nsec3.now).«data».octets)) }
 {
@@ -77,7 +77,8 @@ fn add_param<O: Octets>(
     octets: &mut Vec<u8>,
 ) -> Result<(), OutOfMemory>
     ensures { OnOk result (octets.new.items
-        ≡ octets.old.items ++ record_octets (param_record (as_param_record (λ n. n) param.now))) }
+        ≡ octets.old.items ++ raw_record_octets (param_record (as_param_record (λ n. n)
+        param.now))) }
 {
     // Its data have at most 260 octets, since a salt has at most 255.
     let _salt = param.data().salt().as_slice();

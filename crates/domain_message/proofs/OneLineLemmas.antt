@@ -11,8 +11,9 @@ use Rattle.domain_names.{specs.Name.IsLabel, proofs.TextLemmas.one_name}
 use Rattle.domain_record.specs.{declared.record.Record.Record, Record.record_text}
 use Rattle.domain_rdata.{proofs.ScanLemmas.{none_spelled, text_once}, specs.{Scan.RdataText, Zone.{rtype_of, data_text}}}
 use Rattle.domain_rdata.specs.declared.zone_record_data.ZoneRecordData.{ZoneRecordData}
-use Rattle.domain_message.specs.Entry.{NumbersTaken, OwnerTaken, ClassTaken, BodyText, EntryText, IsOfLine, LineText, RefusesBody, RefusesEntry, RefusesLine}
-use Rattle.domain_message.specs.{Entry.{in_entry, no_entry, no_memory, IsNoEntry}, Record.AreAlike, declared.line.LineError.{LineError, TheVariants.Owner}}
+use Rattle.domain_message.specs.Entry.{NumbersTaken, OwnerTaken, ClassTaken, BodyText, EntryText, IsOfLine, EntryLineText, RefusesBody}
+use Rattle.domain_message.specs.Entry.{RefusesRecordText, RefusesLine}
+use Rattle.domain_message.specs.{Entry.{in_entry, no_entry, no_memory, IsNoEntry}, Record.IsSameRecord, declared.line.LineError.{LineError, TheVariants.Owner}}
 use Rattle.domain_message.{specs.declared.line.LineError.TheVariants.{Ttl, Class, Rtype, RecordData, Trailing}, proofs.RecordLemmas.on_err}
 
 same_number : (text : Token) (m n : ℕ) → IsNumber 32 text m → IsNumber 32 text n → m ≡ n
@@ -48,8 +49,8 @@ module _ {O N : Type 0} (octets : O → Octets) (labels : N → Name) where
       let same = numbers_once _ _ _ _ _ _ _ _ _ b.numbers taken in
       subst (λ t. RdataText octets labels t after d []) same.2 (subst (λ ws. RdataText octets labels b.rtype ws d []) same.3 b.spelled)
 
-  pub one_line : (line : List ℕ) (r s : Record N (ZoneRecordData O N)) → LineText octets labels line r → LineText octets labels line s
-      → AreAlike octets labels r s
+  pub one_line : (line : List ℕ) (r s : Record N (ZoneRecordData O N)) → EntryLineText octets labels line r → EntryLineText octets labels line s
+      → IsSameRecord octets labels r s
   one_line line r s x y =
       let owned = owner_once _ _ _ _ _ x.spelled.owned y.spelled.owned in
       let a = x.spelled.body in
@@ -95,14 +96,14 @@ module _ {O N : Type 0} (octets : O → Octets) (labels : N → Name) where
       (subst (λ ws. RefusesBody octets labels limit ws e) (taken_once tokens behind x.behind owned x.owned) why) own x.body
 
   pub none_in : (limit : Option ℕ) (tokens : Tokens) (r : Record N (ZoneRecordData O N)) (e : LineError)
-      → RefusesEntry octets labels limit tokens e
+      → RefusesRecordText octets labels limit tokens e
       → IsOfLine limit e → EntryText octets labels tokens r → ⊥
   none_in limit tokens r (Owner e) (left, why) own x =
       token_excludes (NameTextFault limit) (IsOfTokens limit) NameText (name_excludes limit) tokens left _ (labels r.owner) (scan_fault_of e) why x.owned own
   none_in limit tokens r _ why own x = none_in_body limit tokens r _ why own x
 
   pub none_where_refused : (limit : Option ℕ) (line : List ℕ) (e : LineError) (r : Record N (ZoneRecordData O N))
-      → RefusesLine octets labels limit line e → IsOfLine limit e → LineText octets labels line r → ⊥
+      → RefusesLine octets labels limit line e → IsOfLine limit e → EntryLineText octets labels line r → ⊥
   none_where_refused limit line e r (no_entry none is) own x = x.seen none
   none_where_refused limit line e r (in_entry seen why) own x = none_in limit (words_of line) r e why own x.spelled
   none_where_refused limit line e r (no_memory is) own x = subst (IsOfLine limit) is own
@@ -115,7 +116,7 @@ none_left (token ∷ tokens) more test off = absurd (let on = test.1 (λ e. cc) 
 
 -- what is refused behind an owner is of the entry
 pub in_body : {O N : Type 0} (octets : O → Octets) (labels : N → Name) (limit : Option ℕ) (owner : Name) (tokens behind : Tokens) (e : LineError)
-    → OwnerTaken owner tokens behind → RefusesBody octets labels limit behind e → RefusesEntry octets labels limit tokens e
+    → OwnerTaken owner tokens behind → RefusesBody octets labels limit behind e → RefusesRecordText octets labels limit tokens e
 unfolding RefusesBody
 in_body octets labels limit owner tokens behind (Owner e) owned why = absurd why
 in_body octets labels limit owner tokens behind _ owned why = (owner, behind, owned, why)
@@ -138,9 +139,9 @@ module _ (line : List ℕ) (i : ℕ) where
 
 pub line_refused : {O N X : Type 0} (octets : O → Octets) (labels : N → Name) (limit : Option ℕ) (line : List ℕ) (tokens : Tokens)
     (skipped : Bool) (r : Result X LineError) → tokens ≡ words_of line → IsTrue skipped ↔ IsNoEntry (words_of line) → skipped ≡ false
-    → IfErr r (RefusesEntry octets labels limit tokens) → IfErr r (RefusesLine octets labels limit line)
+    → IfErr r (RefusesRecordText octets labels limit tokens) → IfErr r (RefusesLine octets labels limit line)
 line_refused octets labels limit line tokens skipped r is test off =
-    on_err (λ e why. in_entry (λ none. let on = test.1 none in cc) (subst (λ ws. RefusesEntry octets labels limit ws e) is why)) r
+    on_err (λ e why. in_entry (λ none. let on = test.1 none in cc) (subst (λ ws. RefusesRecordText octets labels limit ws e) is why)) r
 
 -- ---- what a record is written as is a line that spells it
 
@@ -170,7 +171,7 @@ module _ {O N : Type 0} (octets : O → Octets) (labels : N → Name) (r : Recor
   line_words text = grind (arith, common_steps, first_word, name_word, decimal_word)
 
   line_back : (text : List ℕ) → RdataText octets labels (rtype_of r.«data») (words_of text) r.«data» []
-      → LineText octets labels
+      → EntryLineText octets labels
       (owner_word ++ 32 ∷ (decimal r.ttl ++ 32 ∷ (class_text r.class ++ 32 ∷ (type_text (rtype_of r.«data») ++ 32 ∷ text)))) r
   line_back text spelled = record {
     seen = λ none. name_begins _ owned (subst IsNoEntry (line_words text) none);
@@ -193,10 +194,10 @@ module _ {O N : Type 0} (octets : O → Octets) (labels : N → Name) (r : Recor
   }
 
   back_if : (text : Option Octets) → IfSome text (λ t. RdataText octets labels (rtype_of r.«data») (words_of t) r.«data» [])
-      → IfSome (record_text labels rtype_of (λ d. text) r) (λ line. LineText octets labels line r)
+      → IfSome (record_text labels rtype_of (λ d. text) r) (λ line. EntryLineText octets labels line r)
   back_if None spelled = tt
   back_if (Some text) spelled = line_back text spelled
 
   pub record_back : IfSome (data_text octets labels r.«data») (λ t. RdataText octets labels (rtype_of r.«data») (words_of t) r.«data» [])
-      → IfSome (record_text labels rtype_of (data_text octets labels) r) (λ line. LineText octets labels line r)
+      → IfSome (record_text labels rtype_of (data_text octets labels) r) (λ line. EntryLineText octets labels line r)
   record_back spelled = back_if (data_text octets labels r.«data») spelled

@@ -10,9 +10,10 @@ use Rattle.domain_record.specs.declared.record.Record.{Record}
 use Rattle.domain_rdata.specs.{Zone.{Kind, kind_of, rtype_of, wire_octets}, declared.zone_record_data.ZoneRecordData.ZoneRecordData}
 use Rattle.domain_rdata.{proofs.ScanLemmas.{AreOf, are_of}, specs.declared.zone_record_data.ZoneRecordData.TheVariants.{Ns, Soa, Mx, Unknown}}
 use Rattle.domain_rdata.{proofs.ScanLemmas.are_wire, specs.Scan.AreData}
-use Rattle.domain_message.specs.Data.{parts_of, has_rest, DataAt, PartAt, PartsAt, PartFault, PartsFault, MayEnd, WholeAt, PlacedAt, OctetsAt, text_count}
-use Rattle.domain_message.specs.Record.{numbers, AreAlike, HeaderAt, HeaderFault, in_owner, cut_numbers, IsDataAt, IsOfMessage, RecordAt, OctetsRefusal}
-use Rattle.domain_message.specs.Record.{RefusesData, RefusesRecord, cut, in_part, other_end, too_long, in_header, in_data, in_octets}
+use Rattle.domain_message.specs.Data.{compressed_parts, has_rest, DataAt, PartAt, PartsAt, PartFault, PartsFault, MayEnd, WholeAt, PlacedAt, OctetsAt}
+use Rattle.domain_message.specs.Data.{text_count}
+use Rattle.domain_message.specs.Record.{numbers, IsSameRecord, HeaderAt, HeaderFault, in_owner, cut_numbers, IsDataAt, IsOfMessage, RecordAt, OctetsRefusal}
+use Rattle.domain_message.specs.Record.{RefusesRecordData, RefusesRecord, cut, in_part, other_end, too_long, in_header, in_data, in_octets}
 use Rattle.domain_message.specs.declared.{error.MessageError.MessageError, parts.Part.Part, name.NameFault.NameFault}
 use Rattle.domain_message.{proofs.NameLemmas.{one_name, no_fault, in_full_at, past}, specs.Written.{HasExactWire, record_octets}}
 use Rattle.domain_message.specs.Written.{IsPartInFull, ArePartsInFull, AreInFull}
@@ -30,7 +31,7 @@ take_both n m xs =
 
 module _ (limit : Option ℕ) (message : List ℕ) (rtype place count : ℕ) (inside : place + count ≤ length message) where
   pub copy_refused : {O : Type 0} (wire : List ℕ) (r : Result O MessageError) → DataAt message rtype place count wire → length wire ≤ 65535
-      → IfErr r (λ e. (known : Option Kind) → OctetsRefusal limit known wire e) → IfErr r (RefusesData limit message rtype place count)
+      → IfErr r (λ e. (known : Option Kind) → OctetsRefusal limit known wire e) → IfErr r (RefusesRecordData limit message rtype place count)
   copy_refused wire r placed fits h = on_err (λ e why. in_octets inside wire placed fits (why _)) r h
 
   pub copy_placed : {O : Type 0} (f : O → List ℕ) (wire : List ℕ) (r : Result O MessageError) → DataAt message rtype place count wire
@@ -38,16 +39,16 @@ module _ (limit : Option ℕ) (message : List ℕ) (rtype place count : ℕ) (in
   copy_placed f wire (Ok o) at same = subst (DataAt message rtype place count) (sym same) at
   copy_placed f wire (Err e) at same = tt
 
-  placed_as : (ps : Option (List Part)) (wire : List ℕ) → parts_of rtype ≡ ps → PlacedAt message ps (has_rest rtype) place count wire
+  placed_as : (ps : Option (List Part)) (wire : List ℕ) → compressed_parts rtype ≡ ps → PlacedAt message ps (has_rest rtype) place count wire
       → DataAt message rtype place count wire
   placed_as ps wire is at = subst (λ q. PlacedAt message q (has_rest rtype) place count wire) (sym is) at
 
-  pub placed_plain : parts_of rtype ≡ None → DataAt message rtype place count (take (place + count - place) (drop place message))
+  pub placed_plain : compressed_parts rtype ≡ None → DataAt message rtype place count (take (place + count - place) (drop place message))
   placed_plain none =
       let counts : place + count - place ≡ count = omega arith in
       placed_as None _ none (record { inside = inside; are = ap (λ n. take n (drop place message)) counts; end_is = refl })
 
-  module _ (parts : List Part) (front : List ℕ) (end : ℕ) (some : parts_of rtype ≡ Some parts) (are : PartsAt message parts place front end)
+  module _ (parts : List Part) (front : List ℕ) (end : ℕ) (some : compressed_parts rtype ≡ Some parts) (are : PartsAt message parts place front end)
       (ends : MayEnd (has_rest rtype) end (place + count)) where
     pub placed_parts : (wire : List ℕ) → wire ≡ front ++ take (place + count - end) (drop end message) → DataAt message rtype place count wire
     placed_parts wire same =
@@ -139,13 +140,13 @@ no_header message at owner v place fault x (cut_numbers other end owned early sa
 -- ---- the record
 
 pub one_record : {O N : Type 0} (octets : O → Octets) (labels : N → Name) (message : List ℕ) (at : ℕ) (r s : Record N (ZoneRecordData O N)) (e f : ℕ)
-    → RecordAt octets labels message at r e → RecordAt octets labels message at s f → AreAlike octets labels r s × (e ≡ f)
+    → RecordAt octets labels message at r e → RecordAt octets labels message at s f → IsSameRecord octets labels r s × (e ≡ f)
 one_record octets labels message at r s e f x y =
     let same = one_header message at _ _ _ _ _ _ x.header y.header in
     let values = same.1 in
     let placed = subst (λ p. DataAt message x.rtype p x.count y.holds.wire) (sym same.2)
     (subst (λ (v : Values numbers). DataAt message v.0 y.place v.1.1.1 y.holds.wire) (sym values) y.holds.placed) in
-    let wires = one_placed message (parts_of x.rtype) (has_rest x.rtype) x.place x.count x.holds.wire y.holds.wire x.holds.placed placed in (
+    let wires = one_placed message (compressed_parts x.rtype) (has_rest x.rtype) x.place x.count x.holds.wire y.holds.wire x.holds.placed placed in (
       record {
         owners = same.0;
         classes = ap (λ v. v.1.0) values;
@@ -161,7 +162,7 @@ no_octets : (limit : Option ℕ) (known : Option Kind) (wire : List ℕ) (e : Me
 no_octets limit known wire e why own are = grind (arith, common_steps)
 
 module _ {O N : Type 0} (octets : O → Octets) (labels : N → Name) (limit : Option ℕ) (message : List ℕ) where
-  no_data : (rtype place count : ℕ) (e : MessageError) (d : ZoneRecordData O N) → RefusesData limit message rtype place count e
+  no_data : (rtype place count : ℕ) (e : MessageError) (d : ZoneRecordData O N) → RefusesRecordData limit message rtype place count e
       → IsOfMessage e
       → IsDataAt octets labels message rtype place count d → ⊥
   no_data rtype place count e d (cut over _) own x = omega (arith, over, x.inside)
@@ -173,10 +174,10 @@ module _ {O N : Type 0} (octets : O → Octets) (labels : N → Name) (limit : O
       let same = one_parts message parts place whole.front wire whole.end end whole.parts_are are in
       otherwise (subst (λ n. MayEnd (has_rest rtype) n (place + count)) same.1 whole.ends)
   no_data rtype place count e d (too_long wire placed over _) own x =
-      let same = one_placed message (parts_of rtype) (has_rest rtype) place count wire x.wire placed x.placed in
+      let same = one_placed message (compressed_parts rtype) (has_rest rtype) place count wire x.wire placed x.placed in
       omega (arith, over, x.fits, ap length same)
   no_data rtype place count e d (in_octets _ wire placed _ why) own x =
-      let same = one_placed message (parts_of rtype) (has_rest rtype) place count x.wire wire x.placed placed in
+      let same = one_placed message (compressed_parts rtype) (has_rest rtype) place count x.wire wire x.placed placed in
       no_octets limit (kind_of rtype) wire e why own (subst (AreOf (kind_of rtype)) same (are_of octets labels rtype x.wire d x.read))
 
   pub no_record : (at : ℕ) (e : MessageError) (r : Record N (ZoneRecordData O N)) (end : ℕ) → RefusesRecord limit message at e
@@ -185,8 +186,8 @@ module _ {O N : Type 0} (octets : O → Octets) (labels : N → Name) (limit : O
   no_record at e r end (in_header fault why is) own x = no_header message at _ _ _ fault x.header why
   no_record at e r end (in_data owner v place header why) own x =
       let same = one_header message at _ _ _ _ _ _ x.header header in
-      no_data x.rtype x.place x.count e r.«data» (subst (λ p. RefusesData limit message x.rtype p x.count e) (sym same.2)
-      (subst (λ (u : Values numbers). RefusesData limit message u.0 place u.1.1.1 e) (sym same.1) why)) own x.holds
+      no_data x.rtype x.place x.count e r.«data» (subst (λ p. RefusesRecordData limit message x.rtype p x.count e) (sym same.2)
+      (subst (λ (u : Values numbers). RefusesRecordData limit message u.0 place u.1.1.1 e) (sym same.1) why)) own x.holds
 
 -- ---- a record that is written without compression stands where it was written
 
@@ -283,7 +284,7 @@ module _ {O N : Type 0} (octets : O → Octets) (labels : N → Name) (message :
       (in_full (part.Plain 2 ∷ part.Name ∷ []) (to_be_bytes w16 d.preference ++ wire_of (labels d.exchange))
       (to_be_bytes w16 d.preference, wire_of (labels d.exchange), refl, one_name_full _ are.1.fits.1, refl)) is
   placed (Unknown d) exact are is =
-      all_stand message place within (parts_of d.rtype) (has_rest d.rtype) (octets d.«data») after exact.1 is
+      all_stand message place within (compressed_parts d.rtype) (has_rest d.rtype) (octets d.«data») after exact.1 is
   placed d exact are is = octets_stand message place (length (wire_octets octets labels d)) _ after within refl is
 
 numbers_count : (t c l n : ℕ) → length (octets_of numbers (t, (c, (l, n)))) ≡ 10

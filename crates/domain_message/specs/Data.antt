@@ -12,8 +12,8 @@ use Rattle.domain_message.specs.declared.name.NameFault.TheVariants as name_faul
 -- the types whose data may hold compressed names, which are those of RFC 1035 and those that RFC
 -- 3597, section 4, adds, and the parts of their data: NS, MD, MF, CNAME, MB, MG, MR, PTR and NXT;
 -- MINFO and RP; SOA; MX, AFSDB and RT; PX; SRV; NAPTR; SIG
-abbrev pub parts_of : ℕ → Option (List Part)
-parts_of t =
+abbrev pub compressed_parts : ℕ → Option (List Part)
+compressed_parts t =
     if (t == rtypes.ns) || (t == 3) || (t == 4) || (t == rtypes.cname) || (t == 7) || (t == 8)
     || (t == 9) || (t == rtypes.ptr) || (t == 30) then Some (part.Name ∷ [])
     else if (t == 14) || (t == 17) then Some (part.Name ∷ part.Name ∷ [])
@@ -98,7 +98,7 @@ PlacedAt message None rest at count octets = OctetsAt message at count octets (a
 PlacedAt message (Some parts) rest at count octets = WholeAt message parts rest at count octets
 
 abbrev pub DataAt : Octets → ℕ → ℕ → ℕ → Octets → Type 0
-DataAt message rtype = PlacedAt message (parts_of rtype) (has_rest rtype)
+DataAt message rtype = PlacedAt message (compressed_parts rtype) (has_rest rtype)
 
 -- the greatest number of octets of a part, and of parts together
 abbrev pub part_room : Part → ℕ

@@ -51,7 +51,7 @@ IsNoEntry [] = Unit {0}
 IsNoEntry (word ∷ words) = slice_index word 0 ≡ semicolon
 
 -- the line is an entry that spells the record
-pub record LineText {O N : Type 0} (octets : O → Octets) (labels : N → Name) (line : Octets)
+pub record EntryLineText {O N : Type 0} (octets : O → Octets) (labels : N → Name) (line : Octets)
     (r : Record N (ZoneRecordData O N)) : Type 0 where
   pub seen : IsNoEntry (words_of line) → ⊥
   pub spelled : EntryText octets labels (words_of line) r
@@ -79,11 +79,11 @@ RefusesBody octets labels limit tokens _ = ⊥
 
 -- why tokens do not spell a record: the first is not an owner, or the others do not spell the part
 -- after it
-abbrev pub RefusesEntry : {O N : Type 0} → (O → Octets) → (N → Name) → Option ℕ → Tokens
+abbrev pub RefusesRecordText : {O N : Type 0} → (O → Octets) → (N → Name) → Option ℕ → Tokens
     → LineError → Type 0
-RefusesEntry octets labels limit tokens (Owner e) =
+RefusesRecordText octets labels limit tokens (Owner e) =
     (left : Tokens) × RefusesToken (NameTextFault limit) tokens left (scan_fault_of e)
-RefusesEntry octets labels limit tokens error =
+RefusesRecordText octets labels limit tokens error =
     (owner : Name) × (behind : Tokens) × OwnerTaken owner tokens behind
     × RefusesBody octets labels limit behind error
 
@@ -103,6 +103,6 @@ pub data RefusesLine {O N : Type 0} (octets : O → Octets) (labels : N → Name
   no_entry : IsNoEntry (words_of line) → error ≡ NoEntry
       → RefusesLine octets labels limit line error
   in_entry : (IsNoEntry (words_of line) → ⊥)
-      → RefusesEntry octets labels limit (words_of line) error
+      → RefusesRecordText octets labels limit (words_of line) error
       → RefusesLine octets labels limit line error
   no_memory : error ≡ OutOfMemory → RefusesLine octets labels limit line error

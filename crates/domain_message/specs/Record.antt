@@ -6,9 +6,9 @@ use Rattle.domain_octets.specs.declared.error.AppendError.TheVariants as append_
 use Rattle.domain_names.specs.Name.{Name}
 use Rattle.domain_fields.specs.Layout.{short, long, Layout, one, ◌▸◌, Values, Begins}
 use Rattle.domain_record.specs.declared.record.Record.{Record}
-use Rattle.domain_rdata.specs.{Zone.{Kind, kind_of, rtype_of, wire_octets}, Scan.{AreOfKind, IsPart, AreData}}
+use Rattle.domain_rdata.specs.{Zone.{Kind, kind_of, rtype_of, wire_octets}, Scan.{AreOfKind, IsPartOfData, AreData}}
 use Rattle.domain_rdata.specs.declared.zone_record_data.ZoneRecordData.{ZoneRecordData}
-use Rattle.domain_message.specs.{Data.{parts_of, has_rest, PartsAt, PartsFault, MayEnd, DataAt}, Name.{NameAt, LabelsFault}}
+use Rattle.domain_message.specs.{Data.{compressed_parts, has_rest, PartsAt, PartsFault, MayEnd, DataAt}, Name.{NameAt, LabelsFault}}
 use Rattle.domain_message.specs.declared.{parts.Part.Part, name.NameFault.NameFault}
 use Rattle.domain_message.specs.declared.error.MessageError.{MessageError, TheVariants.{ShortInput, BadLabelType, ForwardPointer, LongName, DataLength}}
 use Rattle.domain_message.specs.declared.error.MessageError.TheVariants.{IllegalData, ShortBuf, OutOfMemory}
@@ -81,7 +81,7 @@ OctetsRefusal limit known wire IllegalData =
     (kind : Kind) × (known ≡ Some kind) × (AreOfKind kind wire → ⊥)
 OctetsRefusal limit known wire ShortBuf =
     IsOver limit (length wire)
-    ⊎ ((kind : Kind) × (part : Octets) × (known ≡ Some kind) × IsPart wire kind part
+    ⊎ ((kind : Kind) × (part : Octets) × (known ≡ Some kind) × IsPartOfData wire kind part
     × IsOver limit (length part))
 OctetsRefusal limit known wire OutOfMemory = Unit {0}
 OctetsRefusal limit known wire _ = ⊥
@@ -89,23 +89,23 @@ OctetsRefusal limit known wire _ = ⊥
 -- why no data of a type are read from `count` octets at a place: the message ends within them; a
 -- part of data that may be compressed has a fault; the parts end elsewhere; or their octets without
 -- compression are more than a record can have, or are rejected
-pub data RefusesData (limit : Option ℕ) (message : Octets) (rtype place count : ℕ)
+pub data RefusesRecordData (limit : Option ℕ) (message : Octets) (rtype place count : ℕ)
     (error : MessageError) : Type 0 where
   cut : length message < place + count → error ≡ ShortInput
-      → RefusesData limit message rtype place count error
-  in_part : place + count ≤ length message → (parts : List Part) → parts_of rtype ≡ Some parts
+      → RefusesRecordData limit message rtype place count error
+  in_part : place + count ≤ length message → (parts : List Part) → compressed_parts rtype ≡ Some parts
       → (fault : NameFault) → PartsFault message parts place fault → error ≡ message_error_of fault
-      → RefusesData limit message rtype place count error
-  other_end : place + count ≤ length message → (parts : List Part) → parts_of rtype ≡ Some parts
+      → RefusesRecordData limit message rtype place count error
+  other_end : place + count ≤ length message → (parts : List Part) → compressed_parts rtype ≡ Some parts
       → (octets : Octets) (end : ℕ) → PartsAt message parts place octets end
       → (MayEnd (has_rest rtype) end (place + count) → ⊥) → error ≡ DataLength
-      → RefusesData limit message rtype place count error
+      → RefusesRecordData limit message rtype place count error
   too_long : (wire : Octets) → DataAt message rtype place count wire → 65535 < length wire
-      → error ≡ IllegalData → RefusesData limit message rtype place count error
+      → error ≡ IllegalData → RefusesRecordData limit message rtype place count error
   in_octets : place + count ≤ length message → (wire : Octets)
       → DataAt message rtype place count wire → length wire ≤ 65535
       → OctetsRefusal limit (kind_of rtype) wire error
-      → RefusesData limit message rtype place count error
+      → RefusesRecordData limit message rtype place count error
 
 -- why no record is read at a place
 pub data RefusesRecord (limit : Option ℕ) (message : Octets) (at : ℕ)
@@ -113,12 +113,12 @@ pub data RefusesRecord (limit : Option ℕ) (message : Octets) (at : ℕ)
   in_header : (fault : NameFault) → HeaderFault message at fault → error ≡ message_error_of fault
       → RefusesRecord limit message at error
   in_data : (owner : Name) (v : Values numbers) (place : ℕ) → HeaderAt message at owner v place
-      → RefusesData limit message v.0 place v.1.1.1 error → RefusesRecord limit message at error
+      → RefusesRecordData limit message v.0 place v.1.1.1 error → RefusesRecord limit message at error
 
 -- ---- records that differ at most in how their octets are held
 
 -- the same owner in the same spelling, class, TTL, type and octets of data
-pub record AreAlike {O N : Type 0} (octets : O → Octets) (labels : N → Name)
+pub record IsSameRecord {O N : Type 0} (octets : O → Octets) (labels : N → Name)
     (r s : Record N (ZoneRecordData O N)) : Type 0 where
   pub owners : labels r.owner ≡ labels s.owner
   pub classes : r.class ≡ s.class

@@ -5,7 +5,7 @@ use Rattle.domain_names.specs.Name.{wire_of, IsName, Name}
 use Rattle.domain_fields.specs.Layout.{octets_of}
 use Rattle.domain_record.specs.declared.record.Record.{Record}
 use Rattle.domain_rdata.specs.{Zone.{HasExactOctets, rtype_of, wire_octets}, declared.zone_record_data.ZoneRecordData.{ZoneRecordData, TheVariants.Unknown}}
-use Rattle.domain_message.specs.{Data.{parts_of, has_rest, MayEnd}, Record.numbers, declared.parts.Part.Part}
+use Rattle.domain_message.specs.{Data.{compressed_parts, has_rest, MayEnd}, Record.numbers, declared.parts.Part.Part}
 use Rattle.domain_message.specs.declared.parts.Part.TheVariants as part
 
 -- these octets are a part without compression
@@ -31,7 +31,7 @@ AreInFull (Some parts) rest octets =
 
 -- data held as octets are the parts of their type without compression
 abbrev pub HoldParts : {O N : Type 0} → (O → Octets) → ZoneRecordData O N → Type 0
-HoldParts octets (Unknown d) = AreInFull (parts_of d.rtype) (has_rest d.rtype) (octets d.«data»)
+HoldParts octets (Unknown d) = AreInFull (compressed_parts d.rtype) (has_rest d.rtype) (octets d.«data»)
 HoldParts octets _ = Unit {0}
 
 -- data held as octets are of a type without another form, and are its parts without compression

@@ -7,9 +7,9 @@ ghost use Rattle.domain_record.specs.{Record.record_text, declared.record.Record
 ghost use Rattle.domain_rdata.specs.{Zone.{HasExactOctets, HasExactText, data_text, rtype_of, wire_octets}, Scan.AreData};
 ghost use Rattle.domain_rdata.specs.declared.zone_record_data.ZoneRecordData.{ZoneRecordData};
 ghost use Rattle.domain_message.specs.Written.{HasExactWire, record_octets};
-ghost use Rattle.domain_message.specs.Entry.{IsOfLine, LineText, RefusesLine};
+ghost use Rattle.domain_message.specs.Entry.{IsOfLine, EntryLineText, RefusesLine};
 ghost use Rattle.domain_message.specs.declared.line.LineError.{LineError};
-ghost use Rattle.domain_message.specs.Record.{AreAlike, IsOfMessage, RecordAt, RefusesRecord};
+ghost use Rattle.domain_message.specs.Record.{IsSameRecord, IsOfMessage, RecordAt, RefusesRecord};
 ghost use Rattle.domain_message.specs.{declared.error.MessageError.MessageError, Name.{LabelsFault, NameAt}};
 ghost use Rattle.domain_message.specs.declared.name.NameFault.{NameFault};
 
@@ -34,7 +34,7 @@ pub fn one_name_stands_at_a_place()
 pub fn one_record_stands_at_a_place<O: Octets, N: ToName>()
     ensures one { (message : Octets) (at : ℕ) (r s : Record N (ZoneRecordData O N)) (end far : ℕ)
         → RecordAt O.octets N.labels message at r end → RecordAt O.octets N.labels message at s far
-        → AreAlike O.octets N.labels r s × (end ≡ far) }
+        → IsSameRecord O.octets N.labels r s × (end ≡ far) }
     ensures none { (limit : Option ℕ) (message : Octets) (at : ℕ) (error : MessageError)
         (r : Record N (ZoneRecordData O N)) (end : ℕ) → RefusesRecord limit message at error
         → IsOfMessage error → RecordAt O.octets N.labels message at r end → ⊥ }
@@ -53,18 +53,18 @@ pub fn written_names_are_read_back()
 /// room or memory.
 pub fn one_record_is_spelled_by_a_line<O: Octets, N: ToName>()
     ensures one { (line : Octets) (r s : Record N (ZoneRecordData O N))
-        → LineText O.octets N.labels line r → LineText O.octets N.labels line s
-        → AreAlike O.octets N.labels r s }
+        → EntryLineText O.octets N.labels line r → EntryLineText O.octets N.labels line s
+        → IsSameRecord O.octets N.labels r s }
     ensures none { (limit : Option ℕ) (line : Octets) (error : LineError)
         (r : Record N (ZoneRecordData O N)) → RefusesLine O.octets N.labels limit line error
-        → IsOfLine limit error → LineText O.octets N.labels line r → ⊥ }
+        → IsOfLine limit error → EntryLineText O.octets N.labels line r → ⊥ }
 {}
 
 /// A written record is a line that spells this record, if the text of its data determines the data.
 pub fn written_records_are_read_back<O: Octets, N: ToName>(value: &Record<N, ZoneRecordData<O, N>>)
     ensures { HasExactText O.octets value.now.«data»
         → IfSome (record_text N.labels rtype_of (data_text O.octets N.labels) value.now) (λ text.
-        LineText O.octets N.labels text value.now) }
+        EntryLineText O.octets N.labels text value.now) }
 {
     data_is_read_back(value.data());
     let _owner = value.owner().as_wire();

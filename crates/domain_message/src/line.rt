@@ -3,8 +3,8 @@ ghost use Rattle.std.specs.Prelude.{◌≡◌, ◌↔◌, IsTrue, false, IfOk, I
 ghost use Rattle.domain_message.specs.ErrorText.{line_error_text};
 ghost use Rattle.domain_octets.specs.Text.{is_blank, words_of};
 ghost use Rattle.domain_message.specs.declared.line.LineError.TheVariants as variant;
-ghost use Rattle.domain_message.specs.Entry.{BodyText, RefusesBody, EntryText, RefusesEntry};
-ghost use Rattle.domain_message.specs.Entry.{IsNoEntry, IsOfLine, LineText, RefusesLine};
+ghost use Rattle.domain_message.specs.Entry.{BodyText, RefusesBody, EntryText, RefusesRecordText};
+ghost use Rattle.domain_message.specs.Entry.{IsNoEntry, IsOfLine, EntryLineText, RefusesLine};
 
 use domain_base::{
     Class, FromToken, IterScanner, MakeName, Name, Rtype, ScanError, Scanner, ToName, Ttl,
@@ -146,7 +146,7 @@ pub fn scan_entry<O: FromBuilder + Drop, N: MakeName + Drop, S: Scanner<Name = N
 where
     O::Builder: EmptyBuilder + Truncate + FreezeBuilder<Frozen = O> + Drop,
     ensures ok { IfOk result (EntryText O.octets N.labels (S.tokens scanner.old)) }
-    ensures err { IfErr result (RefusesEntry O.octets N.labels O.Builder.limit
+    ensures err { IfErr result (RefusesRecordText O.octets N.labels O.Builder.limit
         (S.tokens scanner.old)) }
 {
     let owner = match scanner.scan_name(alloc) {
@@ -189,7 +189,7 @@ pub fn is_no_entry(line: &[u8]) -> bool
 /// - `OutOfMemory` if there is no memory for the words of the line.
 #[tactic(auto, using(std::proofs::lemmas::Grind::common_steps, crate::proofs::OneLineLemmas::line_refused))]
 pub fn scan_record(alloc: Global, line: &str) -> Result<OwnedRecord, LineError>
-    ensures ok { IfOk result (LineText (λ o. o.items) (λ n. n) line.now) }
+    ensures ok { IfOk result (EntryLineText (λ o. o.items) (λ n. n) line.now) }
     ensures err { IfErr result (RefusesLine ⟦<Vec<u8> as Octets>⟧.octets
         ⟦<Name<Vec<u8>> as ToName>⟧.labels None line.now) }
 {

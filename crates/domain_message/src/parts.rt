@@ -1,7 +1,7 @@
 //! The parts of data whose names may be compressed.
 ghost use Rattle.std.specs.Prelude.{◌≡◌, ◌≤◌, ◌+◌, ◌++◌, ◌↔◌, length, Some, None, IsTrue, IfOk, IfErr, IfSome, IfNone};
 ghost use Rattle.domain_octets.specs.Octets.{Octets};
-ghost use Rattle.domain_message.specs.Data.{parts_of, parts_room, part_room, has_rest, text_count};
+ghost use Rattle.domain_message.specs.Data.{compressed_parts, parts_room, part_room, has_rest, text_count};
 ghost use Rattle.domain_message.specs.Data.{OctetsAt, PartAt, PartsAt, EndsWithin, PartFault, PartsFault, MayEnd};
 
 use crate::NameFault;
@@ -29,9 +29,9 @@ pub(crate) enum Part {
 
 /// Returns the parts of the data of a type, without the rest if there is one, or `None` for a type
 /// whose data have no compressed names.
-pub(crate) fn parts_of(rtype: Rtype) -> Option<&'static [Part]>
-    ensures some { IfSome result (λ parts. parts_of rtype ≡ Some parts.now) }
-    ensures none { IfNone result (parts_of rtype ≡ None) }
+pub(crate) fn compressed_parts(rtype: Rtype) -> Option<&'static [Part]>
+    ensures some { IfSome result (λ parts. compressed_parts rtype ≡ Some parts.now) }
+    ensures none { IfNone result (compressed_parts rtype ≡ None) }
     ensures room { IfSome result (λ parts. parts_room parts.now ≤ 1027) }
 {
     match rtype.to_int() {

@@ -3,12 +3,12 @@ ghost use Rattle.std.specs.Prelude.{◌≡◌, ◌≤◌, ◌<◌, ◌+◌, ◌+
 ghost use Rattle.domain_octets.specs.Octets.{Octets};
 ghost use Rattle.domain_names.specs.Text.{scan_fault_of};
 ghost use Rattle.domain_rdata.specs.{Zone.Kind, Scan.OctetsFault};
-ghost use Rattle.domain_message.specs.{Data.{parts_of, parts_room, OctetsAt, DataAt}, Record.IsDataAt};
-ghost use Rattle.domain_message.specs.Record.{RecordAt, OctetsRefusal, RefusesData, RefusesRecord};
+ghost use Rattle.domain_message.specs.{Data.{compressed_parts, parts_room, OctetsAt, DataAt}, Record.IsDataAt};
+ghost use Rattle.domain_message.specs.Record.{RecordAt, OctetsRefusal, RefusesRecordData, RefusesRecord};
 
 use crate::MessageError;
 use crate::header::header_at;
-use crate::parts::{Part, expand, may_end, parts_of};
+use crate::parts::{Part, compressed_parts, expand, may_end};
 use domain_base::{MakeName, Rtype, ScanError};
 use domain_octets::{ArrayBuilder, FromBuilder, Octets, OutOfMemory};
 use domain_rdata::ZoneRecordData;
@@ -58,11 +58,11 @@ fn whole_at<O: FromBuilder>(
 ) -> Result<O, MessageError>
     requires inside { place + count ≤ length message.now }
     requires short { count < 65536 }
-    requires some { parts_of rtype ≡ Some parts.now }
+    requires some { compressed_parts rtype ≡ Some parts.now }
     requires room { parts_room parts.now ≤ 1027 }
     ensures ok { IfOk result (λ o. DataAt message.now rtype place count (O.octets o)) }
     ensures fits { IfOk result (λ o. length (O.octets o) ≤ 65535) }
-    ensures err { IfErr result (RefusesData O.Builder.limit message.now rtype place count) }
+    ensures err { IfErr result (RefusesRecordData O.Builder.limit message.now rtype place count) }
 {
     let mut expanded = ArrayBuilder::new();
     let end = expand(message, parts, place, &mut expanded)?;
@@ -96,9 +96,9 @@ fn octets_at<O: FromBuilder>(
     requires short { count < 65536 }
     ensures ok { IfOk result (λ o. DataAt message.now rtype place count (O.octets o)) }
     ensures fits { IfOk result (λ o. length (O.octets o) ≤ 65535) }
-    ensures err { IfErr result (RefusesData O.Builder.limit message.now rtype place count) }
+    ensures err { IfErr result (RefusesRecordData O.Builder.limit message.now rtype place count) }
 {
-    match parts_of(rtype) {
+    match compressed_parts(rtype) {
         Some(parts) => whole_at(alloc, message, rtype, parts, place, count),
         None => copied(alloc, &message[place..place + count]),
     }
@@ -129,7 +129,7 @@ fn data_at<O: FromBuilder + Drop, N: MakeName + Drop>(
     requires inside { place ≤ length message.now }
     requires short { count < 65536 }
     ensures ok { IfOk result (IsDataAt O.octets N.labels message.now rtype place count) }
-    ensures err { IfErr result (RefusesData O.Builder.limit message.now rtype place count) }
+    ensures err { IfErr result (RefusesRecordData O.Builder.limit message.now rtype place count) }
 {
     if count > message.len() - place {
         return Err(MessageError::ShortInput);

@@ -7,11 +7,16 @@ use Rattle.domain_names.{proofs.OrderLemmas.canonical_cmp-more, specs.Name.{Name
 use Rattle.domain_names.specs.Name.{wire_of}
 use Rattle.domain_nsec3.proofs.OwnerLemmas.{apex_original, ascends_both, cut_encloses, empty_are, existing_are, is_own, lower_text, names_are, out_flag}
 use Rattle.domain_nsec3.{proofs.OwnerLemmas.{runs_to_encloser, sorted, sound_short, sound_some, tied_octets}, specs.Chain.{AreAllHashed, ChainConfig}}
-use Rattle.domain_nsec3.specs.Chain.{HasCollision, Hash, HashAnswer, HashedLink, HashedName, IsFirstFault, IsFirstHashFault, IsFirstHashingFault, IsHashedChain}
-use Rattle.domain_nsec3.specs.Chain.{IsOfChain, cycle, ends, ends_of, hash_fault, hash_name, hash_of, hashed_owner, is_chain_name, is_empty, is_hashed_before}
-use Rattle.domain_nsec3.specs.{Chain.{is_listed, is_original_owner, nsec3_lists, original_owners}, Meaning.{AreAlone, IsAlone, IsMatchedOrCoveredOnce}}
-use Rattle.domain_nsec3.specs.{Meaning.{IsRecordOf, MeansTheZone, OwnersAscend, TellsEncloserOf, octets_before}, Steps.{AreHashesOf, AreOrderedHashes}}
-use Rattle.domain_nsec3.specs.Steps.{AreUsable, AreWithEmpty, Common, HasAlikeNeighbours, IsFirstRefused, IsHashOf, IsHashingFault, link_to, links_in, name_at}
+use Rattle.domain_nsec3.specs.Chain.{HasCollision, Hash, HashAnswer, HashedLink, HashedName, IsFirstHashedFault, IsFirstHashFault}
+use Rattle.domain_nsec3.specs.Chain.{IsFirstHashingFault, IsHashedChain}
+use Rattle.domain_nsec3.specs.Chain.{IsOfChain, cycle, ends, ends_of, hash_fault, hash_name, hash_of, hashed_owner, is_chain_name, is_empty_in_chain}
+use Rattle.domain_nsec3.specs.Chain.{is_hashed_before}
+use Rattle.domain_nsec3.specs.Chain.{is_listed_in_nsec3, OwnerKind, is_original_owner, nsec3_lists, original_owners}
+use Rattle.domain_nsec3.specs.Meaning.{AreAlone, IsAlone, IsHashMatchedOrCoveredOnce}
+use Rattle.domain_nsec3.specs.Meaning.{IsRecordOf, HashedMeansTheZone, HashedOwnersAscend, TellsEncloserOf, octets_before}
+use Rattle.domain_nsec3.specs.Steps.{AreHashesOf, AreOrderedHashes}
+use Rattle.domain_nsec3.specs.Steps.{AreUsable, AreWithEmpty, Common, HasAlikeNeighbours, IsFirstRefused, IsHashOf, IsHashingFault, link_to}
+use Rattle.domain_nsec3.specs.Steps.{hashed_links_in, name_at}
 use Rattle.domain_nsec3.specs.declared.{chain.HashedChain.HashedChain, hash.Hashed.Hashed}
 use Rattle.domain_octets.specs.Octets.{Octets}
 use Rattle.domain_groups.specs.declared.error.SigningError.{SigningError, TheVariants.{EmptyRecordSlice, MultipleTtlValues, Nsec3HashingError, OutOfMemory}}
@@ -42,10 +47,18 @@ no_types = sym (packs_nothing [] refl) ∙ bitmap_octets-same (holds []) (λ t. 
 -- ---- What is listed of a zone are the original owners of its chain, or it tells the first fault.
 
 module _ (L : List ZoneRecord) (a : Name) (config : ChainConfig) where
+  -- what an owner with these records is
+  abbrev pub kind_at : Bool → OwnerRecords → OwnerKind
+  kind_at at_apex o = record {
+    is_cut = o.is_zone_cut;
+    is_unsigned = o.is_zone_cut && not (has_type o.records ds);
+    is_apex = at_apex;
+    assumes_dnskey = config.assume_dnskeys_will_be_added && at_apex;
+  }
+
   -- the types that are listed of an owner
   abbrev pub bits : Bool → OwnerRecords → Octets
-  bits at_apex o = bitmap_octets (is_listed (o.is_zone_cut && not (has_type o.records ds)) at_apex
-      (config.assume_dnskeys_will_be_added && at_apex) o.is_zone_cut o.records)
+  bits at_apex o = bitmap_octets (is_listed_in_nsec3 (kind_at at_apex o) o.records)
 
   -- of owners that own records, these are those of the chain
   bits_told : (ks : List Name) → AllByRecursion (λ n. owns L n ≡ true) ks
@@ -53,14 +66,14 @@ module _ (L : List ZoneRecord) (a : Name) (config : ChainConfig) where
   bits_told [] own = refl
   bits_told (k ∷ ks) own =
       let at = owner_at L a k in
-      λ i. bitmap_octets (λ t. sym own.0 i && is_listed (at.is_zone_cut && not (has_type at.records ds)) (same_name k a)
-      (config.assume_dnskeys_will_be_added && same_name k a) at.is_zone_cut at.records t) ∷ bits_told ks own.1 i
+      λ i. bitmap_octets (λ t. sym own.0 i && is_listed_in_nsec3 (kind_at (same_name k a) at) at.records t)
+      ∷ bits_told ks own.1 i
 
   pub originals_typed : map (λ n. bits (same_name n a) (owner_at L a n)) (original_owners L a config)
       ≡ map (λ n. bitmap_octets (nsec3_lists L a config n)) (original_owners L a config)
   originals_typed = bits_told _ (weaker _ _ (λ n own. own.0) _ (all_filter _ _ _ (owners_are config.occlude_below_dname L a)))
 
-  pub listing_fault : (e : SigningError) → soa_of L a ≢ None → IsListingFault L (original_owners L a config) e → IsFirstFault L a config e
+  pub listing_fault : (e : SigningError) → soa_of L a ≢ None → IsListingFault L (original_owners L a config) e → IsFirstHashedFault L a config e
   listing_fault EmptyRecordSlice soa h = absurd h
   listing_fault SoaRecordCouldNotBeDetermined soa h = absurd h
   listing_fault MultipleTtlValues soa h = (soa, h)
@@ -196,22 +209,22 @@ module _ (a : Name) (chain : HashedChain) (p : Common) where
   -- what stands at a place, with the hash after it
   pub link_is : (item : Hashed) (next : Octets) (i : ℕ) (d : HashedLink) → i < length chain.hashed.items → item ≡ get_or chain.hashed.items i item
       → next ≡ (get_or chain.hashed.items (i + 1) (get_or chain.hashed.items 0 item)).hash
-      → link_to a p chain.types item next ≡ get_or (links_in a chain p) i d
+      → link_to a p chain.types item next ≡ get_or (hashed_links_in a chain p) i d
   link_is item next i d within is after =
       let at = cycle_at chain.hashed.items i (item, item) within in
       grind (arith, common_steps, cycle_length)
 
-  pub links_counted : length (links_in a chain p) ≡ length chain.hashed.items
+  pub links_counted : length (hashed_links_in a chain p) ≡ length chain.hashed.items
   links_counted = length-map (cycle chain.hashed.items) (λ (q : Hashed × Hashed). link_to a p chain.types q.0 q.1.hash) ∙ cycle_length chain.hashed.items
 
   -- the record at a place has the hash at that place
   pub hash_there : (i : ℕ) (h : Hashed) (v : Octets) → i < length chain.hashed.items → h ≡ get_or chain.hashed.items i h → v ≡ h.hash
-      → All (λ octet. octet < 256) v → (k : HashedLink) × IsRecordOf a (links_in a chain p) i k v
+      → All (λ octet. octet < 256) v → (k : HashedLink) × IsRecordOf a (hashed_links_in a chain p) i k v
   hash_there i h v within is v_is octets =
       let d = link_to a p chain.types h h.hash in (
-        get_or (links_in a chain p) i (link_to a p chain.types h h.hash),
+        get_or (hashed_links_in a chain p) i (link_to a p chain.types h h.hash),
         record {
-          there = slice_get-get_or (links_in a chain p) i d (omega (arith, within, links_counted));
+          there = slice_get-get_or (hashed_links_in a chain p) i d (omega (arith, within, links_counted));
           spelled =
               ap (λ k. k.owner) (get_or-map (λ (q : Hashed × Hashed). link_to a p chain.types q.0 q.1.hash) (cycle chain.hashed.items) i (h, h) d
               (omega (arith, within, cycle_length chain.hashed.items)))
@@ -279,7 +292,7 @@ module _ (L : List ZoneRecord) (a : Name) (config : ChainConfig) (names : List N
   pub chain_of_zone : (chain : HashedChain) (p : Common) (numbers : ApexSoa)
       → ((i : ℕ) → i < length names → get_or chain.types i [] ≡ bitmap_octets (nsec3_lists L a config (get_or names i [])))
       → soa_of L a ≡ Some numbers → p.ttl ≡ chain_ttl numbers → p.parameters ≡ config.parameters → p.flags ≡ config.flags
-      → AreOrderedHashes a config.hash names chain.hashed.items → IsHashedChain L a config (links_in a chain p)
+      → AreOrderedHashes a config.hash names chain.hashed.items → IsHashedChain L a config (hashed_links_in a chain p)
   chain_of_zone chain p numbers listed soa ttl parameters flags o = record {
     numbers = numbers;
     soa = soa;
@@ -370,7 +383,7 @@ module _ {L : List ZoneRecord} {a : Name} {config : ChainConfig} {owners : Liste
       (λ n e. not-true (is_original_owner L a config n) (and_parts (is_at_or_below n a) _ (and_parts _ _ e).0).1) empty all_empty))
 
   -- the types at a place are those of its name
-  unowned : (x : Name) → is_empty L a config x ≡ true → [] ≡ bitmap_octets (nsec3_lists L a config x)
+  unowned : (x : Name) → is_empty_in_chain L a config x ≡ true → [] ≡ bitmap_octets (nsec3_lists L a config x)
   unowned x e = no_types ∙ grind (arith, common_steps)
 
   typed : (i : ℕ) → i < length names → get_or owners.types i [] ≡ bitmap_octets (nsec3_lists L a config (get_or names i []))
@@ -380,7 +393,7 @@ module _ {L : List ZoneRecord} {a : Name} {config : ChainConfig} {owners : Liste
 
   pub outcome_chain : (chain : HashedChain) (p : Common) (numbers : ApexSoa) → soa_of L a ≡ Some numbers → p.ttl ≡ chain_ttl numbers
       → p.parameters ≡ config.parameters → p.flags ≡ config.flags → chain.types ≡ owners.types
-      → AreOrderedHashes a config.hash names chain.hashed.items → IsHashedChain L a config (links_in a chain p)
+      → AreOrderedHashes a config.hash names chain.hashed.items → IsHashedChain L a config (hashed_links_in a chain p)
   outcome_chain chain p numbers soa ttl parameters flags same =
       chain_of_zone L a config names are chain p numbers (λ i l. ap (λ ts. get_or ts i []) same ∙ typed i l) soa ttl parameters flags
 
@@ -426,7 +439,8 @@ owners_of_cycle a links us e =
     ∙ map-map (λ (p : Name × List ℕ). p.0) (ends_of a) (cycle us) ∙ sym (map-map (hashed_owner a) (λ (q : List ℕ × List ℕ). q.0) (cycle us))
     ∙ ap (map (hashed_owner a)) (cycle_owners us)
 
-pub link_owners_ascend : (L : List ZoneRecord) (a : Name) (config : ChainConfig) (links : List HashedLink) → IsHashedChain L a config links → OwnersAscend links
+pub link_owners_ascend : (L : List ZoneRecord) (a : Name) (config : ChainConfig) (links : List HashedLink) → IsHashedChain L a config links
+    → HashedOwnersAscend links
 link_owners_ascend L a config links chain =
     subst (IsStrictlySortedBy canonical_cmp) (sym (owners_of_cycle a links (map (λ n. n.hash) chain.names) chain.linked))
     (octets_ascending a (map (λ n. n.hash) chain.names) (all_map _ (λ n. n.hash) chain.names
@@ -480,7 +494,7 @@ module _ (L : List ZoneRecord) (a : Name) (config : ChainConfig) where
 
   -- the apex is a name of the chain where it owns records
   apex_named : owns L a ≡ true → is_chain_name L a config a ≡ true
-  apex_named o = or_left _ (is_empty L a config a) (apex_original L a config o)
+  apex_named o = or_left _ (is_empty_in_chain L a config a) (apex_original L a config o)
 
   module _ (links : List HashedLink) (chain : IsHashedChain L a config links) where
     name_sound : (n : HashedName) → In n chain.names → IsOfChain L a config n
@@ -528,7 +542,7 @@ module _ (L : List ZoneRecord) (a : Name) (config : ChainConfig) where
         by [] up h = absurd (false≢true h)
         by (n ∷ ns) up h = one_of_ring octets_order n.hash (map (λ n. n.hash) ns) (ascending (slice_cmp nat_cmp) (n.hash ∷ map (λ n. n.hash) ns) up) v
 
-    mirrored : (x : Name) (v : List ℕ) → IsAlone L a config x v → IsMatchedOrCoveredOnce L a config links x v
+    mirrored : (x : Name) (v : List ℕ) → IsAlone L a config x v → IsHashMatchedOrCoveredOnce L a config links x v
     mirrored x v alone =
         let one = the_pair v in
         let l = mapped_at (ends_of a) ends (cycle hashes) links (sym chain.linked) one.place one.item one.there in
@@ -607,7 +621,7 @@ module _ (L : List ZoneRecord) (a : Name) (config : ChainConfig) where
             };
       }
 
-    pub means_the_zone : MeansTheZone L a config links
+    pub means_the_zone : HashedMeansTheZone L a config links
     means_the_zone = record {
       ascent = link_owners_ascend L a config links chain;
       denial = record { each = λ x v low alone. mirrored x v alone };

@@ -10,7 +10,8 @@ use Rattle.domain_hasher.specs.declared.error.Nsec3HashError.{Nsec3HashError, Th
 use Rattle.domain_names.{proofs.WireLemmas.{IsWire-wire_of, labels_of-wire_of, wire_is}, specs.Name.{IsName, Label, Name, before, canonical_cmp, common_labels}}
 use Rattle.domain_names.specs.{Name.{is_at_or_below, is_strictly_below, lowered, same_name, wire_of}, Text.{label_text, name_text, octet_text}, Wire.IsWire}
 use Rattle.domain_names.specs.Wire.{labels_of}
-use Rattle.domain_nsec3.specs.Chain.{ChainConfig, Hash, excludes, hash_fault, hash_name, hashed_owner, is_chain_name, is_empty, is_excluded, is_original_owner}
+use Rattle.domain_nsec3.specs.Chain.{ChainConfig, Hash, excludes, hash_fault, hash_name, hashed_owner, is_chain_name, is_empty_in_chain, is_excluded}
+use Rattle.domain_nsec3.specs.Chain.{is_original_owner}
 use Rattle.domain_nsec3.specs.{Chain.original_owners, Meaning.{CutsEnclose, octets_before}}
 use Rattle.domain_nsec3.specs.Steps.{AreFirstHashes, AreHashesOf, HasAlikeNeighbours, IsFirstRefused, IsHashOf}
 use Rattle.domain_nsec3.specs.{Steps.{IsHashed, IsListOf, IsPlacedHash, IsRefusal, above_with_more, is_over, name_at}, declared.hash.Hashed.Hashed}
@@ -345,7 +346,7 @@ module _ (L : List ZoneRecord) (a : Name) (config : ChainConfig) where
   existing_are x low = grind (arith, common_steps, any_at_or_below, exists_alike, owner_above)
 
   -- over the owners alone
-  pub empty_are : (x : Name) → is_empty_nonterminal (original_owners L a config) a x ≡ is_empty L a config x
+  pub empty_are : (x : Name) → is_empty_nonterminal (original_owners L a config) a x ≡ is_empty_in_chain L a config x
   empty_are x = grind (arith, common_steps, empty_alike, original_is, owner_above)
 
   -- the owners and the empty non-terminals over them are the names of the chain

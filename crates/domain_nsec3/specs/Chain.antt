@@ -74,29 +74,42 @@ is_original_owner L a config x = list_any (λ n. same_name n x) (original_owners
 
 -- an empty non-terminal of the chain: it owns nothing, is at or below the apex, and an original
 -- owner name is strictly below it
-abbrev pub is_empty : List ZoneRecord → Name → ChainConfig → Name → Bool
-is_empty L a config x =
+abbrev pub is_empty_in_chain : List ZoneRecord → Name → ChainConfig → Name → Bool
+is_empty_in_chain L a config x =
     is_at_or_below x a && not (owns L x)
     && list_any (λ n. is_strictly_below n x) (original_owners L a config)
 
 -- the chain has a record for the hash of x
 abbrev pub is_chain_name : List ZoneRecord → Name → ChainConfig → Name → Bool
-is_chain_name L a config x = is_original_owner L a config x || is_empty L a config x
+is_chain_name L a config x = is_original_owner L a config x || is_empty_in_chain L a config x
+
+-- what an owner is, as far as it decides on the types that its NSEC3 record lists: a zone cut, one
+-- without DS, the apex, and an owner at which DNSKEY is assumed
+pub record OwnerKind : Type 0 where
+  pub is_cut : Bool
+  pub is_unsigned : Bool
+  pub is_apex : Bool
+  pub assumes_dnskey : Bool
 
 -- the types that the NSEC3 record of an owner with these records lists: RRSIG, except at a zone cut
 -- without DS, where nothing is signed; at the apex NSEC3PARAM, and DNSKEY if it is assumed; and the
 -- types of the records, at a zone cut only NS and DS
-abbrev pub is_listed : Bool → Bool → Bool → Bool → List ZoneRecord → ℕ → Bool
-is_listed unsigned at_apex assumed cut rs t =
-    (((t == rrsig) && not unsigned) || ((t == nsec3param) && at_apex) || ((t == dnskey) && assumed))
-    || lists_type cut rs t
+abbrev pub is_listed_in_nsec3 : OwnerKind → List ZoneRecord → ℕ → Bool
+is_listed_in_nsec3 owner rs t =
+    (((t == rrsig) && not owner.is_unsigned) || ((t == nsec3param) && owner.is_apex)
+    || ((t == dnskey) && owner.assumes_dnskey))
+    || lists_type owner.is_cut rs t
 
 -- the types that the NSEC3 record of n lists, none if n owns nothing
 abbrev pub nsec3_lists : List ZoneRecord → Name → ChainConfig → Name → ℕ → Bool
 nsec3_lists L a config n t =
     owns L n
-    && is_listed (is_unsigned_cut L a n) (same_name n a)
-    (config.assume_dnskeys_will_be_added && same_name n a) (is_zone_cut L a n) (records_of L n) t
+    && is_listed_in_nsec3 (record {
+      is_cut = is_zone_cut L a n;
+      is_unsigned = is_unsigned_cut L a n;
+      is_apex = same_name n a;
+      assumes_dnskey = config.assume_dnskeys_will_be_added && same_name n a;
+    }) (records_of L n) t
 
 -- ---- The NSEC3 chain of a zone (RFC 5155, section 7.1).
 
@@ -257,17 +270,17 @@ IsFirstHashingFault L a config e = IsFirstHashFault L a config e
 
 -- the error is the first fault of the zone, or `OutOfMemory`, which leaves open whether there is a
 -- fault of hashing, since hashes take memory too
-abbrev pub IsFirstFault : List ZoneRecord → Name → ChainConfig → SigningError → Type 0
-IsFirstFault L a config SoaRecordCouldNotBeDetermined = soa_of L a ≡ None
-IsFirstFault L a config MultipleTtlValues =
+abbrev pub IsFirstHashedFault : List ZoneRecord → Name → ChainConfig → SigningError → Type 0
+IsFirstHashedFault L a config SoaRecordCouldNotBeDetermined = soa_of L a ≡ None
+IsFirstHashedFault L a config MultipleTtlValues =
     (soa_of L a ≢ None) × (has_unequal_ttls L (original_owners L a config) ≡ true)
-IsFirstFault L a config (Nsec3HashingError e) =
+IsFirstHashedFault L a config (Nsec3HashingError e) =
     IsReady L a config × IsFirstHashingFault L a config e
-IsFirstFault L a config EmptyRecordSlice = ⊥
-IsFirstFault L a config OutOfMemory = IsReady L a config
+IsFirstHashedFault L a config EmptyRecordSlice = ⊥
+IsFirstHashedFault L a config OutOfMemory = IsReady L a config
 
 -- the zone has no fault
-pub record IsFaultless (L : List ZoneRecord) (a : Name) (config : ChainConfig) : Type 0 where
+pub record IsHashedFaultless (L : List ZoneRecord) (a : Name) (config : ChainConfig) : Type 0 where
   pub ready : IsReady L a config
   pub hashed : AreAllHashed L a config
   pub apart : ¬ (HasCollision L a config)

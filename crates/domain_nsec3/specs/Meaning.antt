@@ -36,7 +36,7 @@ pub record IsRecordOf (a : Name) (links : List HashedLink) (place : ℕ) (k : Ha
 
 -- exactly one record matches or covers the hash v of x; it matches if and only if x is a name of
 -- the chain, and then lists the types of x
-pub record IsMatchedOrCoveredOnce (L : List ZoneRecord) (a : Name) (config : ChainConfig)
+pub record IsHashMatchedOrCoveredOnce (L : List ZoneRecord) (a : Name) (config : ChainConfig)
     (links : List HashedLink) (x : Name) (v : Octets) : Type 0 where
   pub place : ℕ
   pub link : HashedLink
@@ -51,10 +51,10 @@ pub record IsMatchedOrCoveredOnce (L : List ZoneRecord) (a : Name) (config : Cha
 
 -- this holds for each name at or below the apex whose hash no other name of the chain has, even if
 -- no record holds the name: the chain denies exactly what the zone does not hold
-pub record MirrorsZone (L : List ZoneRecord) (a : Name) (config : ChainConfig)
+pub record HashedMirrorsZone (L : List ZoneRecord) (a : Name) (config : ChainConfig)
     (links : List HashedLink) : Type 0 where
   pub each : (x : Name) (v : Octets) → is_at_or_below x a ≡ true → IsAlone L a config x v
-      → IsMatchedOrCoveredOnce L a config links x v
+      → IsHashMatchedOrCoveredOnce L a config links x v
 
 -- some record matches the hash of x
 pub record IsMatched (a : Name) (config : ChainConfig) (links : List HashedLink) (x : Name)
@@ -97,7 +97,7 @@ pub record TellsEncloserOf (L : List ZoneRecord) (a : Name) (config : ChainConfi
 
 -- each name at or below the apex has a closest encloser; the chain shows it if neither the name nor
 -- an ancestor shares its hash with another name of the chain
-pub record TellsEncloser (L : List ZoneRecord) (a : Name) (config : ChainConfig)
+pub record HashedTellsEncloser (L : List ZoneRecord) (a : Name) (config : ChainConfig)
     (links : List HashedLink) : Type 0 where
   pub encloser : (x : Name) → is_at_or_below x a ≡ true
       → (e : Name) × IsClosestEncloser (original_owners L a config) a x e
@@ -125,14 +125,14 @@ pub record CoversExcluded (L : List ZoneRecord) (a : Name) (config : ChainConfig
       → IsCovered a config links d
 
 -- the owners of the records ascend in canonical order, as their hashes do
-abbrev pub OwnersAscend : List HashedLink → Type 0
-OwnersAscend links = IsStrictlySortedBy canonical_cmp (map (λ k. k.owner) links)
+abbrev pub HashedOwnersAscend : List HashedLink → Type 0
+HashedOwnersAscend links = IsStrictlySortedBy canonical_cmp (map (λ k. k.owner) links)
 
 -- what the chain of a zone says of every name, and the order of its owners
-pub record MeansTheZone (L : List ZoneRecord) (a : Name) (config : ChainConfig)
+pub record HashedMeansTheZone (L : List ZoneRecord) (a : Name) (config : ChainConfig)
     (links : List HashedLink) : Type 0 where
-  pub ascent : OwnersAscend links
-  pub denial : MirrorsZone L a config links
-  pub enclosers : TellsEncloser L a config links
+  pub ascent : HashedOwnersAscend links
+  pub denial : HashedMirrorsZone L a config links
+  pub enclosers : HashedTellsEncloser L a config links
   pub cuts : CutsEnclose L a config
   pub excluded : CoversExcluded L a config links

@@ -135,5 +135,5 @@ link_to a p types h next = record {
 }
 
 -- the links of this chain below this apex
-abbrev pub links_in : Name → HashedChain → Common → List HashedLink
-links_in a chain p = map (λ q. link_to a p chain.types q.0 q.1.hash) (cycle chain.hashed.items)
+abbrev pub hashed_links_in : Name → HashedChain → Common → List HashedLink
+hashed_links_in a chain p = map (λ q. link_to a p chain.types q.0 q.1.hash) (cycle chain.hashed.items)

@@ -2,7 +2,7 @@
 //! octets of their own.
 ghost use Rattle.std.specs.Prelude.{◌≡◌, ◌<◌, [], IfOk, Ok, Some, length, slice_index_or};
 ghost use Rattle.domain_base.specs.Classes.{in_class};
-ghost use Rattle.domain_nsec3.specs.{Chain.HashedLink, Steps.{common_of, links_in, AreUsable}, View.{link_text, shared_text}};
+ghost use Rattle.domain_nsec3.specs.{Chain.HashedLink, Steps.{common_of, hashed_links_in, AreUsable}, View.{link_text, shared_text}};
 ghost use Rattle.domain_nsec3.specs.View.{as_hashed_link, as_param_record, link_with};
 
 use crate::HashedOwner;
@@ -105,7 +105,8 @@ pub(crate) fn lend_record<'a, O: Octets>(
     requires sound { AreUsable nsec3param.now.owner chain.now }
     requires shared { shared.now ≡ shared_text nsec3param.now.owner ttl }
     ensures { (d : HashedLink) → result ≡ slice_index_or
-        (links_in nsec3param.now.owner chain.now (common_of nsec3param.now.«data» ttl)) at d }
+        (hashed_links_in nsec3param.now.owner chain.now (common_of nsec3param.now.«data» ttl)) at
+        d }
 {
     let next = hash_after(chain.hashed.as_slice(), at);
     let hashed = &chain.hashed[at];

@@ -7,9 +7,9 @@ ghost use Rattle.domain_names.specs.Name.{is_at_or_below, same_name, canonical_c
 ghost use Rattle.domain_groups.specs.InOrder.{IsInOrder};
 ghost use Rattle.domain_hasher.specs.declared.error.Nsec3HashError.TheVariants as hash_error;
 ghost use Rattle.domain_zone.specs.Zone.{chain_ttl, soa_of, zone_of};
-ghost use Rattle.domain_nsec3.specs.{Chain.{IsHashedChain, IsFaultless, IsFirstFault}, Steps.AreOrderedHashes};
+ghost use Rattle.domain_nsec3.specs.{Chain.{IsHashedChain, IsHashedFaultless, IsFirstHashedFault}, Steps.AreOrderedHashes};
 ghost use Rattle.domain_nsec3.specs.Steps.{AreUsable, AreWithEmpty, HasAlikeNeighbours, IsHashingFault};
-ghost use Rattle.domain_nsec3.specs.Steps.{above_with_more, is_over, IsListOf, common_of, links_in};
+ghost use Rattle.domain_nsec3.specs.Steps.{above_with_more, is_over, IsListOf, common_of, hashed_links_in};
 ghost use Rattle.domain_nsec3.specs.View.{config_of, hash_by, parameters_of};
 ghost use Rattle.domain_nsec3.specs.declared.hash.Hashed.{Hashed};
 
@@ -196,12 +196,13 @@ pub(crate) fn chain_of_zone<S: Sorter, H: Nsec3Hasher, O: Octets, N: ToName, D: 
     ensures chain { IfOk result (λ chain. IsHashedChain
         (zone_of N.labels D.rtype D.minimum records.entry) (N.labels apex.now)
         (config_of (H.answer hasher.now) config.now)
-        (links_in (N.labels apex.now) chain (common_of config.now.params (chain_ttl soa.now)))) }
+        (hashed_links_in (N.labels apex.now) chain (common_of config.now.params
+        (chain_ttl soa.now)))) }
     ensures sound { IfOk result (λ chain. AreUsable (N.labels apex.now) chain) }
-    ensures faultless { OnOk result (IsFaultless (zone_of N.labels D.rtype D.minimum records.entry)
-        (N.labels apex.now) (config_of (H.answer hasher.now) config.now)) }
-    ensures fault { IfErr result (IsFirstFault (zone_of N.labels D.rtype D.minimum records.entry)
-        (N.labels apex.now) (config_of (H.answer hasher.now) config.now)) }
+    ensures faultless { OnOk result (IsHashedFaultless (zone_of N.labels D.rtype D.minimum
+        records.entry) (N.labels apex.now) (config_of (H.answer hasher.now) config.now)) }
+    ensures fault { IfErr result (IsFirstHashedFault (zone_of N.labels D.rtype D.minimum
+        records.entry) (N.labels apex.now) (config_of (H.answer hasher.now) config.now)) }
 {
     let without_unsigned = config.params.opt_out_flag()
         & config.opt_out_exclude_owner_names_of_unsigned_delegations;

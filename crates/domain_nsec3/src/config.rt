@@ -207,11 +207,14 @@ impl<O: Octets, S> ChainTypes for GenerateNsec3Config<O, S> {
     ghost use Rattle.domain_base.specs.Types.{ds};
     ghost use Rattle.domain_bitmap.specs.Bitmap.{bitmap_octets};
     ghost use Rattle.domain_zone.specs.Zone.{has_type};
-    ghost use Rattle.domain_nsec3.specs.Chain.{is_listed};
+    ghost use Rattle.domain_nsec3.specs.Chain.{is_listed_in_nsec3};
 
-    ghost bits = { λ config at_apex o. bitmap_octets (is_listed
-        (o.is_zone_cut && not (has_type o.records ds)) at_apex
-        (config.assume_dnskeys_will_be_added && at_apex) o.is_zone_cut o.records) };
+    ghost bits = { λ config at_apex o. bitmap_octets (is_listed_in_nsec3 (record {
+      is_cut = o.is_zone_cut;
+      is_unsigned = o.is_zone_cut && not (has_type o.records ds);
+      is_apex = at_apex;
+      assumes_dnskey = config.assume_dnskeys_will_be_added && at_apex;
+    }) o.records) };
 
     fn types_of<N: ToName, D: ZoneData>(
         &self,

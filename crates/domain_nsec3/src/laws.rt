@@ -4,8 +4,8 @@ ghost use Rattle.domain_zone.specs.Enclosers.{exists_over, is_empty_nonterminal,
 ghost use Rattle.domain_zone.specs.Zone.{ZoneRecord, is_zone_cut};
 ghost use Rattle.domain_names.specs.Name.{is_at_or_below, same_name, Name};
 ghost use Rattle.domain_nsec3.specs.Chain.{HashedLink, IsHashedChain, ChainConfig, original_owners};
-ghost use Rattle.domain_nsec3.specs.Chain.{is_original_owner, is_chain_name, is_empty, nsec3_lists};
-ghost use Rattle.domain_nsec3.specs.Meaning.{CutsEnclose, MeansTheZone};
+ghost use Rattle.domain_nsec3.specs.Chain.{is_original_owner, is_chain_name, is_empty_in_chain, nsec3_lists};
+ghost use Rattle.domain_nsec3.specs.Meaning.{CutsEnclose, HashedMeansTheZone};
 
 /// The names of the chain are those that exist over its original owner names that own records. So
 /// each name above one of them, at or below the apex, is one too.
@@ -15,7 +15,7 @@ pub fn names_exist()
         → is_at_or_below x a ≡ true
         → exists_over (original_owners L a config) a x ≡ is_chain_name L a config x }
     ensures empty { (L : List ZoneRecord) (a : Name) (config : ChainConfig) (x : Name)
-        → is_empty_nonterminal (original_owners L a config) a x ≡ is_empty L a config x }
+        → is_empty_nonterminal (original_owners L a config) a x ≡ is_empty_in_chain L a config x }
 {}
 
 /// Among the names from `x` up to the apex, those at or above the closest encloser of `x` are names
@@ -44,5 +44,5 @@ pub fn types_ignore_case()
 /// What a chain says of every name follows from the chain, however it was made.
 pub fn chains_mean_the_zone()
     ensures { (L : List ZoneRecord) (a : Name) (config : ChainConfig) (links : List HashedLink)
-        → IsHashedChain L a config links → MeansTheZone L a config links }
+        → IsHashedChain L a config links → HashedMeansTheZone L a config links }
 {}

@@ -3,8 +3,8 @@ ghost use Rattle.std.specs.Prelude.{◌≡◌, ◌<◌, ◌≤◌, ◌↔◌, []
 ghost use Rattle.domain_base.specs.Classes.{in_class};
 ghost use Rattle.domain_groups.specs.InOrder.{IsOneClass, IsInOrder};
 ghost use Rattle.domain_zone.specs.Zone.{zone_of};
-ghost use Rattle.domain_nsec3.specs.Chain.{HashedLink, IsChainParam, IsHashedChain, param_ttl, IsFaultless};
-ghost use Rattle.domain_nsec3.specs.{Chain.IsFirstFault, Meaning.{IsRecordOf, MeansTheZone}, Steps.{common_of, links_in}};
+ghost use Rattle.domain_nsec3.specs.Chain.{HashedLink, IsChainParam, IsHashedChain, param_ttl, IsHashedFaultless};
+ghost use Rattle.domain_nsec3.specs.{Chain.IsFirstHashedFault, Meaning.{IsRecordOf, HashedMeansTheZone}, Steps.{common_of, hashed_links_in}};
 ghost use Rattle.domain_nsec3.specs.{Steps.AreUsable, View.{as_param_record, config_of, hashed_links_of}};
 ghost use Rattle.domain_nsec3.specs.View.{parameters_of, shared_text};
 
@@ -38,13 +38,13 @@ pub struct Nsec3Chain<'a, O: Octets> {
 
 impl<'a, O: Octets> Model for Nsec3Chain<'a, O> {
     ghost use Rattle.std.specs.Prelude.{◌≡◌, string_bytes};
-    ghost use Rattle.domain_nsec3.specs.{Chain.ChainRecords, Steps.{common_of, links_in}};
+    ghost use Rattle.domain_nsec3.specs.{Chain.ChainRecords, Steps.{common_of, hashed_links_in}};
     ghost use Rattle.domain_nsec3.specs.{Steps.AreUsable, View.{as_param_record, shared_text}};
 
     ghost Value = { ChainRecords };
 
     ghost view = { λ c. record {
-      links = links_in c.nsec3param.owner c.chain (common_of c.nsec3param.«data» c.ttl);
+      links = hashed_links_in c.nsec3param.owner c.chain (common_of c.nsec3param.«data» c.ttl);
       param = as_param_record (λ n. n) c.nsec3param;
     } };
 
@@ -119,11 +119,11 @@ impl<'a, O: Octets> Nsec3Chain<'a, O> {
             (config_of (H.answer hasher.now) config.now) config.now.nsec3param_ttl_mode
             made.param) }
         ensures faultless { OnOk result
-            (IsFaultless (zone_of N.labels D.rtype D.minimum records.entry) (N.labels apex.now)
-            (config_of (H.answer hasher.now) config.now)) }
+            (IsHashedFaultless (zone_of N.labels D.rtype D.minimum records.entry)
+            (N.labels apex.now) (config_of (H.answer hasher.now) config.now)) }
         ensures fault { IfErr result
-            (IsFirstFault (zone_of N.labels D.rtype D.minimum records.entry) (N.labels apex.now)
-            (config_of (H.answer hasher.now) config.now)) }
+            (IsFirstHashedFault (zone_of N.labels D.rtype D.minimum records.entry)
+            (N.labels apex.now) (config_of (H.answer hasher.now) config.now)) }
     {
         let Some(soa) = find_soa(apex, records.records()) else {
             return Err(SigningError::SoaRecordCouldNotBeDetermined);
@@ -288,13 +288,13 @@ where
         (zone_of N.labels D.rtype D.minimum records.entry) (N.labels apex.now)
         (config_of (H.answer hasher.now) config.now) config.now.nsec3param_ttl_mode
         (as_param_record N.labels made.nsec3param)) }
-    ensures faultless { OnOk result (IsFaultless (zone_of N.labels D.rtype D.minimum records.entry)
-        (N.labels apex.now) (config_of (H.answer hasher.now) config.now)) }
-    ensures fault { IfErr result (IsFirstFault (zone_of N.labels D.rtype D.minimum records.entry)
-        (N.labels apex.now) (config_of (H.answer hasher.now) config.now)) }
+    ensures faultless { OnOk result (IsHashedFaultless (zone_of N.labels D.rtype D.minimum
+        records.entry) (N.labels apex.now) (config_of (H.answer hasher.now) config.now)) }
+    ensures fault { IfErr result (IsFirstHashedFault (zone_of N.labels D.rtype D.minimum
+        records.entry) (N.labels apex.now) (config_of (H.answer hasher.now) config.now)) }
 
     // What the chain says of every name of the zone. Its owners ascend as their hashes do.
-    ensures means { IfOk result (λ made. MeansTheZone
+    ensures means { IfOk result (λ made. HashedMeansTheZone
         (zone_of N.labels D.rtype D.minimum records.entry) (N.labels apex.now)
         (config_of (H.answer hasher.now) config.now) (hashed_links_of N.labels made.nsec3s.items)) }
 {

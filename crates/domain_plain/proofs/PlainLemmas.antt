@@ -8,7 +8,7 @@ use Rattle.domain_names.specs.Text.{IsOfTokens}
 use Rattle.domain_fields.{specs.Scan.{RefusesBoth, IsExact, IsExactEntry, Scans}, proofs.GrammarLemmas.{token_exact, both_exact, same_octets, entry_refused}}
 use Rattle.domain_fields.{proofs.{GrammarLemmas.entry_refused_once, ExactLemmas.parses_back}, specs.Layout.{Values, Begins, ParsesBack, octets_of}}
 use Rattle.domain_fields.proofs.ScanLemmas.{entry_line}
-use Rattle.domain_plain.specs.Plain.{IsMark, generic_head, GenericText, GenericFault, IsNoMark, generic_text, generic_mark, unknown, a}
+use Rattle.domain_plain.specs.Plain.{IsMark, generic_head, GenericText, GenericFault, IsNoMark, generic_text, generic_mark, unknown_layout, a_layout}
 use Rattle.domain_octets.{specs.{Octets.AreOctets, Text.{words_of, IsWord}}, proofs.WordLemmas.{one_word, decimal_word, joined_words}}
 use Rattle.hex.specs.Hex.{encode_upper, encode_with}
 
@@ -31,12 +31,12 @@ generic_exact limit = record {
 
 -- ---- what was composed parses back
 
-pub short_data_back : (octets : List ℕ) → AreOctets octets → length octets ≤ 65535 → ParsesBack unknown (tt, octets)
+pub short_data_back : (octets : List ℕ) → AreOctets octets → length octets ≤ 65535 → ParsesBack unknown_layout (tt, octets)
 unfolding octets_of
-short_data_back octets small fits = parses_back unknown (tt, octets) refl (tt, small) (omega (arith, length-append octets []), refl)
+short_data_back octets small fits = parses_back unknown_layout (tt, octets) refl (tt, small) (omega (arith, length-append octets []), refl)
 
 -- data that were read have no more octets than a record can hold
-pub limit_of_unknown : (octets : List ℕ) (v : Values unknown) (after : List ℕ) → Begins unknown octets v after → length v.1 ≤ 65535
+pub limit_of_unknown : (octets : List ℕ) (v : Values unknown_layout) (after : List ℕ) → Begins unknown_layout octets v after → length v.1 ≤ 65535
 unfolding octets_of
 limit_of_unknown octets v after begins = omega (arith, begins.ends.0, length-append v.1 after)
 
@@ -51,10 +51,10 @@ some_after (c ∷ front) text some = λ none. cc
 dotted_word : (w x y z : ℕ) → w < 256 → x < 256 → y < 256 → z < 256 → IsWord (dotted_text w x y z)
 dotted_word w x y z w_small x_small y_small z_small = grind (arith, common_steps, decimal_word, some_after)
 
-four_back : (w x y z : ℕ) → w < 256 → x < 256 → y < 256 → z < 256 → Scans a (words_of (dotted_text w x y z)) (w ∷ x ∷ y ∷ z ∷ []) []
+four_back : (w x y z : ℕ) → w < 256 → x < 256 → y < 256 → z < 256 → Scans a_layout (words_of (dotted_text w x y z)) (w ∷ x ∷ y ∷ z ∷ []) []
 four_back w x y z w_small x_small y_small z_small = grind (arith, common_steps, one_word, dotted_word)
 
-pub a_back : (octets : List ℕ) → length octets ≡ 4 → AreOctets octets → Scans a (words_of (ipv4_text octets)) octets []
+pub a_back : (octets : List ℕ) → length octets ≡ 4 → AreOctets octets → Scans a_layout (words_of (ipv4_text octets)) octets []
 a_back (w ∷ x ∷ y ∷ z ∷ []) four small =
     four_back w x y z (small 0 0 (omega arith)) (small 1 0 (omega arith)) (small 2 0 (omega arith)) (small 3 0 (omega arith))
 a_back _ four small = absurd (omega (arith, four))

@@ -19,40 +19,40 @@ pub record UnknownData (O : Type 0) : Type 0 where
 -- ---- the fields of plain data, in the order of the wire
 
 -- the address (RFC 1035, section 3.4.1)
-abbrev pub a : Layout
-a = one (exactly 4)
+abbrev pub a_layout : Layout
+a_layout = one (exactly 4)
 
-abbrev pub a_values : A → Values a
+abbrev pub a_values : A → Values a_layout
 a_values d = ipv4_octets d.addr
 
 -- the name of the server (RFC 1035, section 3.3.11)
-abbrev pub ns : Layout
-ns = one name
+abbrev pub ns_layout : Layout
+ns_layout = one name
 
-abbrev pub ns_values : {N : Type 0} → (N → Name) → Ns N → Values ns
+abbrev pub ns_values : {N : Type 0} → (N → Name) → Ns N → Values ns_layout
 ns_values labels d = labels d.nsdname
 
 -- the two names, and serial, refresh, retry, expire and minimum (RFC 1035, section 3.3.13)
-abbrev pub soa : Layout
-soa = (one name ▸ one name) ▸ (one long ▸ one long ▸ one long) ▸ one long ▸ one long
+abbrev pub soa_layout : Layout
+soa_layout = (one name ▸ one name) ▸ (one long ▸ one long ▸ one long) ▸ one long ▸ one long
 
-abbrev pub soa_values : {N : Type 0} → (N → Name) → Soa N → Values soa
+abbrev pub soa_values : {N : Type 0} → (N → Name) → Soa N → Values soa_layout
 soa_values labels d =
     ((labels d.mname, labels d.rname), ((d.serial, (d.refresh, d.retry)), (d.expire, d.minimum)))
 
 -- the preference and the name of the exchange (RFC 1035, section 3.3.9)
-abbrev pub mx : Layout
-mx = one short ▸ one name
+abbrev pub mx_layout : Layout
+mx_layout = one short ▸ one name
 
-abbrev pub mx_values : {N : Type 0} → (N → Name) → Mx N → Values mx
+abbrev pub mx_values : {N : Type 0} → (N → Name) → Mx N → Values mx_layout
 mx_values labels d = (d.preference, labels d.exchange)
 
 -- the octets as they are, at most as many as a record can hold (RFC 3597, section 5; RFC 1035,
 -- section 3.2.1)
-abbrev pub unknown : Layout
-unknown = one (at_most 65535) ▸ one rest
+abbrev pub unknown_layout : Layout
+unknown_layout = one (at_most 65535) ▸ one rest
 
-abbrev pub unknown_values : {O : Type 0} → (O → Octets) → UnknownData O → Values unknown
+abbrev pub unknown_values : {O : Type 0} → (O → Octets) → UnknownData O → Values unknown_layout
 unknown_values octets d = (tt, octets d.«data»)
 
 -- ---- SOA data over other names, and in presentation format
@@ -70,7 +70,7 @@ pub record IsSoaWith {M N : Type 0} (is_same : M → N → Type 0) (source : Soa
 
 -- the two names with their last dots, and the numbers, with single spaces between them
 abbrev pub soa_text : {N : Type 0} → (N → Name) → Soa N → Option Octets
-soa_text labels d = Some (join_with_byte space (printed soa (soa_values labels d)))
+soa_text labels d = Some (join_with_byte space (printed soa_layout (soa_values labels d)))
 
 -- ---- data of any type in presentation format (RFC 3597, section 5)
 

@@ -7,7 +7,7 @@ ghost use Rattle.domain_fields.specs.Layout.{Reads, octets_of, canonical_of};
 ghost use Rattle.domain_fields.specs.{Layout.same_values_tie, Scan.{Scans, Refuses}};
 ghost use Rattle.domain_base.specs.Scan.{ReadsTokens};
 ghost use Rattle.domain_base.specs.Types as rtypes;
-ghost use Rattle.domain_plain.specs.Plain.{a, a_values};
+ghost use Rattle.domain_plain.specs.Plain.{a_layout, a_values};
 
 use domain_base::{CanonicalOrd, Rtype, ScanError, Scanner};
 use domain_fields::{Address, Exactly, Fields, Form, ReadFields, ScanFields};
@@ -40,7 +40,7 @@ impl A {
     ///
     /// `ShortInput` if fewer than four octets are left. The parser is then unchanged.
     pub fn parse<'a>(parser: &mut Parser<'a>) -> Result<Self, ParseError>
-        ensures { Reads a a_values fault_of parser.old parser.new result }
+        ensures { Reads a_layout a_values fault_of parser.old parser.new result }
     {
         let Exactly(octets) = Exactly::<4>::read(parser)?;
         Ok(A::new(Ipv4Addr::from(octets)))
@@ -49,7 +49,7 @@ impl A {
     /// Parses an address from the front of the tokens. After an error, a suffix of the tokens is
     /// left.
     pub fn scan<S: Scanner>(alloc: Global, scanner: &mut S) -> Result<Self, ScanError>
-        ensures { ReadsTokens (Scans a) a_values (Refuses S.Octets.Builder.limit a)
+        ensures { ReadsTokens (Scans a_layout) a_values (Refuses S.Octets.Builder.limit a_layout)
             (S.tokens scanner.old) (S.tokens scanner.new) result }
     {
         let Address(addr) = <Address as ScanFields<S>>::scan(alloc, scanner)?;
@@ -87,7 +87,7 @@ impl CloneRecordData for A {
     ghost clone_rtype = { λ d copy same. refl };
 
     ghost clone_canonical = { λ d copy same.
-        same_values_tie a a_values d copy (λ i. ipv4_octets (same i)) };
+        same_values_tie a_layout a_values d copy (λ i. ipv4_octets (same i)) };
 }
 
 impl OctetsFrom<A> for A {
@@ -113,7 +113,7 @@ impl RecordData for A {
 impl<'a> ParseRecordData<'a> for A {
     ghost is_read = { λ rtype. rtype ≡ rtypes.a };
 
-    ghost layout = { a };
+    ghost layout = { a_layout };
 
     ghost values = { a_values };
 
@@ -126,9 +126,9 @@ impl<'a> ParseRecordData<'a> for A {
 }
 
 impl ComposeRecordData for A {
-    ghost octets = { λ d. octets_of a (a_values d) };
+    ghost octets = { λ d. octets_of a_layout (a_values d) };
 
-    ghost canonical = { λ d. canonical_of a (a_values d) };
+    ghost canonical = { λ d. canonical_of a_layout (a_values d) };
 
     fn room_after(&self, limit: usize) -> Option<usize> {
         self.fields().room_after(limit)
@@ -144,9 +144,9 @@ impl ComposeRecordData for A {
 }
 
 impl CanonicalOrd for A {
-    ghost canonical_cmp = { on (λ d. canonical_of a (a_values d)) (slice_cmp nat_cmp) };
+    ghost canonical_cmp = { on (λ d. canonical_of a_layout (a_values d)) (slice_cmp nat_cmp) };
 
-    ghost total = { on_texts (λ d. canonical_of a (a_values d)) };
+    ghost total = { on_texts (λ d. canonical_of a_layout (a_values d)) };
 
     fn canonical_cmp(&self, other: &Self) -> Ordering {
         self.fields().order(&other.fields())

@@ -7,7 +7,7 @@ ghost use Rattle.domain_fields.specs.Layout.{Reads, octets_of, canonical_of};
 ghost use Rattle.domain_fields.specs.{Layout.same_values_tie, Scan.{Scans, Refuses}};
 ghost use Rattle.domain_base.specs.Scan.{ReadsTokens};
 ghost use Rattle.domain_base.specs.Types as rtypes;
-ghost use Rattle.domain_plain.specs.Plain.{mx, mx_values};
+ghost use Rattle.domain_plain.specs.Plain.{mx_layout, mx_values};
 
 use domain_base::{CanonicalOrd, ParsedName, Rtype, ScanError, Scanner, ToName};
 use domain_fields::{Fields, Form, ReadFields, ScanFields, Scanned};
@@ -75,7 +75,7 @@ impl<N: ToName> CloneRecordData for Mx<N> {
     ghost clone_rtype = { λ d copy same. refl };
 
     ghost clone_canonical = { λ d copy same.
-        same_values_tie mx (mx_values N.labels) d copy
+        same_values_tie mx_layout (mx_values N.labels) d copy
         (λ i. (same.0 i, N.clone_labels d.exchange copy.exchange same.1 i)) };
 }
 
@@ -99,7 +99,8 @@ impl<N: ToName> Mx<N> {
     pub fn scan<S: Scanner<Name = N>>(alloc: Global, scanner: &mut S) -> Result<Self, ScanError>
     where
         N: Drop,
-        ensures { ReadsTokens (Scans mx) (mx_values N.labels) (Refuses S.Octets.Builder.limit mx)
+        ensures { ReadsTokens (Scans mx_layout) (mx_values N.labels)
+            (Refuses S.Octets.Builder.limit mx_layout)
             (S.tokens scanner.old) (S.tokens scanner.new) result }
     {
         let (preference, Scanned(exchange)) = <(u16, Scanned<N>) as ScanFields<S>>::scan(
@@ -127,7 +128,7 @@ impl<'a> Mx<ParsedName<'a>> {
     /// `Form("compressed or bad label")` at a length over 63 or a pointer, and `Form("long domain
     /// name")` at more than 255 octets. After an error the parser is unchanged.
     pub fn parse(parser: &mut Parser<'a>) -> Result<Self, ParseError>
-        ensures { Reads mx (mx_values (λ name. name)) fault_of parser.old parser.new result }
+        ensures { Reads mx_layout (mx_values (λ name. name)) fault_of parser.old parser.new result }
     {
         let (preference, exchange) = <(u16, ParsedName<'a>)>::read(parser)?;
         Ok(Mx::new(preference, exchange))
@@ -137,7 +138,7 @@ impl<'a> Mx<ParsedName<'a>> {
 impl<'a> ParseRecordData<'a> for Mx<ParsedName<'a>> {
     ghost is_read = { λ rtype. rtype ≡ rtypes.mx };
 
-    ghost layout = { mx };
+    ghost layout = { mx_layout };
 
     ghost values = { mx_values (λ name. name) };
 
@@ -158,9 +159,9 @@ impl<N: ToName> RecordData for Mx<N> {
 }
 
 impl<N: ToName> ComposeRecordData for Mx<N> {
-    ghost octets = { λ d. octets_of mx (mx_values N.labels d) };
+    ghost octets = { λ d. octets_of mx_layout (mx_values N.labels d) };
 
-    ghost canonical = { λ d. canonical_of mx (mx_values N.labels d) };
+    ghost canonical = { λ d. canonical_of mx_layout (mx_values N.labels d) };
 
     fn room_after(&self, limit: usize) -> Option<usize> {
         self.fields().room_after(limit)
@@ -176,9 +177,10 @@ impl<N: ToName> ComposeRecordData for Mx<N> {
 }
 
 impl<N: ToName> CanonicalOrd for Mx<N> {
-    ghost canonical_cmp = { on (λ d. canonical_of mx (mx_values N.labels d)) (slice_cmp nat_cmp) };
+    ghost canonical_cmp = { on (λ d. canonical_of mx_layout (mx_values N.labels d))
+        (slice_cmp nat_cmp) };
 
-    ghost total = { on_texts (λ d. canonical_of mx (mx_values N.labels d)) };
+    ghost total = { on_texts (λ d. canonical_of mx_layout (mx_values N.labels d)) };
 
     fn canonical_cmp(&self, other: &Self) -> Ordering {
         self.fields().order(&other.fields())

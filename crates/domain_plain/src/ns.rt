@@ -6,7 +6,7 @@ ghost use Rattle.domain_fields.specs.Layout.{Reads, octets_of, canonical_of};
 ghost use Rattle.domain_fields.specs.{Layout.same_values_tie, Scan.{Scans, Refuses}};
 ghost use Rattle.domain_base.specs.Scan.{ReadsTokens};
 ghost use Rattle.domain_base.specs.Types as rtypes;
-ghost use Rattle.domain_plain.specs.Plain.{ns, ns_values};
+ghost use Rattle.domain_plain.specs.Plain.{ns_layout, ns_values};
 
 use domain_base::{CanonicalOrd, ParsedName, Rtype, ScanError, Scanner, ToName};
 use domain_fields::{Fields, Form, ReadFields, ScanFields, Scanned};
@@ -61,7 +61,7 @@ impl<N: ToName> CloneRecordData for Ns<N> {
     ghost clone_rtype = { λ d copy same. refl };
 
     ghost clone_canonical = { λ d copy same.
-        same_values_tie ns (ns_values N.labels) d copy
+        same_values_tie ns_layout (ns_values N.labels) d copy
         (N.clone_labels d.nsdname copy.nsdname same) };
 }
 
@@ -82,7 +82,8 @@ impl<N: ToName> Ns<N> {
     pub fn scan<S: Scanner<Name = N>>(alloc: Global, scanner: &mut S) -> Result<Self, ScanError>
     where
         N: Drop,
-        ensures { ReadsTokens (Scans ns) (ns_values N.labels) (Refuses S.Octets.Builder.limit ns)
+        ensures { ReadsTokens (Scans ns_layout) (ns_values N.labels)
+            (Refuses S.Octets.Builder.limit ns_layout)
             (S.tokens scanner.old) (S.tokens scanner.new) result }
     {
         let Scanned(nsdname) = <Scanned<N> as ScanFields<S>>::scan(alloc, scanner)?;
@@ -106,7 +107,7 @@ impl<'a> Ns<ParsedName<'a>> {
     /// or bad label")` at a length over 63 or a pointer, and `Form("long domain name")` at more
     /// than 255 octets. After an error the parser is unchanged.
     pub fn parse(parser: &mut Parser<'a>) -> Result<Self, ParseError>
-        ensures { Reads ns (ns_values (λ name. name)) fault_of parser.old parser.new result }
+        ensures { Reads ns_layout (ns_values (λ name. name)) fault_of parser.old parser.new result }
     {
         Ok(Ns::new(<ParsedName<'a> as ReadFields<'a>>::read(parser)?))
     }
@@ -115,7 +116,7 @@ impl<'a> Ns<ParsedName<'a>> {
 impl<'a> ParseRecordData<'a> for Ns<ParsedName<'a>> {
     ghost is_read = { λ rtype. rtype ≡ rtypes.ns };
 
-    ghost layout = { ns };
+    ghost layout = { ns_layout };
 
     ghost values = { ns_values (λ name. name) };
 
@@ -136,9 +137,9 @@ impl<N: ToName> RecordData for Ns<N> {
 }
 
 impl<N: ToName> ComposeRecordData for Ns<N> {
-    ghost octets = { λ d. octets_of ns (ns_values N.labels d) };
+    ghost octets = { λ d. octets_of ns_layout (ns_values N.labels d) };
 
-    ghost canonical = { λ d. canonical_of ns (ns_values N.labels d) };
+    ghost canonical = { λ d. canonical_of ns_layout (ns_values N.labels d) };
 
     fn room_after(&self, limit: usize) -> Option<usize> {
         self.fields().room_after(limit)
@@ -154,9 +155,10 @@ impl<N: ToName> ComposeRecordData for Ns<N> {
 }
 
 impl<N: ToName> CanonicalOrd for Ns<N> {
-    ghost canonical_cmp = { on (λ d. canonical_of ns (ns_values N.labels d)) (slice_cmp nat_cmp) };
+    ghost canonical_cmp = { on (λ d. canonical_of ns_layout (ns_values N.labels d))
+        (slice_cmp nat_cmp) };
 
-    ghost total = { on_texts (λ d. canonical_of ns (ns_values N.labels d)) };
+    ghost total = { on_texts (λ d. canonical_of ns_layout (ns_values N.labels d)) };
 
     fn canonical_cmp(&self, other: &Self) -> Ordering {
         self.fields().order(&other.fields())

@@ -6,7 +6,7 @@ ghost use Rattle.domain_fields.specs.Layout.{Reads, octets_of, canonical_of};
 ghost use Rattle.domain_fields.specs.{Layout.same_values_tie, Scan.{Scans, Refuses}};
 ghost use Rattle.domain_base.specs.Scan.{ReadsTokens};
 ghost use Rattle.domain_base.specs.Types as rtypes;
-ghost use Rattle.domain_plain.specs.Plain.{soa, soa_values, IsSoaWith, soa_text};
+ghost use Rattle.domain_plain.specs.Plain.{soa_layout, soa_values, IsSoaWith, soa_text};
 
 use domain_base::{CanonicalOrd, ParsedName, Rtype, ScanError, Scanner, ToName, Ttl};
 use domain_fields::{Fields, Form, ReadFields, ScanFields, Scanned};
@@ -178,7 +178,7 @@ impl<N: TryClone + Drop> TryClone for Soa<N> {
 impl<N: ToName + Drop> CloneRecordData for Soa<N> {
     ghost clone_rtype = { λ d copy same. refl };
 
-    ghost clone_canonical = { λ d copy same. same_values_tie soa (soa_values N.labels) d copy
+    ghost clone_canonical = { λ d copy same. same_values_tie soa_layout (soa_values N.labels) d copy
         (λ i. (
           (
             N.clone_labels d.mname copy.mname same.mname i,
@@ -211,7 +211,8 @@ impl<N: ToName> Soa<N> {
     pub fn scan<S: Scanner<Name = N>>(alloc: Global, scanner: &mut S) -> Result<Self, ScanError>
     where
         N: Drop,
-        ensures { ReadsTokens (Scans soa) (soa_values N.labels) (Refuses S.Octets.Builder.limit soa)
+        ensures { ReadsTokens (Scans soa_layout) (soa_values N.labels)
+            (Refuses S.Octets.Builder.limit soa_layout)
             (S.tokens scanner.old) (S.tokens scanner.new) result }
     {
         let ((Scanned(mname), Scanned(rname)), numbers) = <ScannedSoa<N> as ScanFields<S>>::scan(
@@ -247,7 +248,8 @@ impl<'a> Soa<ParsedName<'a>> {
     /// or a pointer, and `Form("long domain name")` at more than 255 octets. For a number, it is
     /// `ShortInput` if an octet is missing. After an error the parser is unchanged.
     pub fn parse(parser: &mut Parser<'a>) -> Result<Self, ParseError>
-        ensures { Reads soa (soa_values (λ name. name)) fault_of parser.old parser.new result }
+        ensures { Reads soa_layout (soa_values (λ name. name)) fault_of parser.old
+            parser.new result }
     {
         let ((mname, rname), numbers) = SoaFields::read(parser)?;
         Ok(Soa::of_parts(mname, rname, numbers))
@@ -257,7 +259,7 @@ impl<'a> Soa<ParsedName<'a>> {
 impl<'a> ParseRecordData<'a> for Soa<ParsedName<'a>> {
     ghost is_read = { λ rtype. rtype ≡ rtypes.soa };
 
-    ghost layout = { soa };
+    ghost layout = { soa_layout };
 
     ghost values = { soa_values (λ name. name) };
 
@@ -278,9 +280,9 @@ impl<N: ToName> RecordData for Soa<N> {
 }
 
 impl<N: ToName> ComposeRecordData for Soa<N> {
-    ghost octets = { λ d. octets_of soa (soa_values N.labels d) };
+    ghost octets = { λ d. octets_of soa_layout (soa_values N.labels d) };
 
-    ghost canonical = { λ d. canonical_of soa (soa_values N.labels d) };
+    ghost canonical = { λ d. canonical_of soa_layout (soa_values N.labels d) };
 
     fn room_after(&self, limit: usize) -> Option<usize> {
         self.fields().room_after(limit)
@@ -296,10 +298,10 @@ impl<N: ToName> ComposeRecordData for Soa<N> {
 }
 
 impl<N: ToName> CanonicalOrd for Soa<N> {
-    ghost canonical_cmp = { on (λ d. canonical_of soa (soa_values N.labels d))
+    ghost canonical_cmp = { on (λ d. canonical_of soa_layout (soa_values N.labels d))
         (slice_cmp nat_cmp) };
 
-    ghost total = { on_texts (λ d. canonical_of soa (soa_values N.labels d)) };
+    ghost total = { on_texts (λ d. canonical_of soa_layout (soa_values N.labels d)) };
 
     fn canonical_cmp(&self, other: &Self) -> Ordering {
         self.fields().order(&other.fields())

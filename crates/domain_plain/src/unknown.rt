@@ -5,7 +5,7 @@ ghost use Rattle.std.specs.Cmp.Lexicographic.{slice_cmp, on_texts};
 ghost use Rattle.domain_octets.specs.Octets.{IsOver, AreOctets};
 ghost use Rattle.domain_names.specs.Wire.{fault_of};
 ghost use Rattle.domain_plain.specs.Plain.{GenericText, GenericFault, IsMark, IsNoMark, generic_text};
-ghost use Rattle.domain_plain.specs.Plain.{unknown, unknown_values};
+ghost use Rattle.domain_plain.specs.Plain.{unknown_layout, unknown_values};
 ghost use Rattle.domain_fields.specs.Layout.{octets_of, canonical_of, Reads};
 ghost use Rattle.domain_fields.specs.{Layout.same_values_tie, Scan.AllTokens};
 ghost use Rattle.domain_base.specs.Scan.{ReadsTokens, OneToken, RefusesToken};
@@ -175,8 +175,8 @@ impl<'a> UnknownRecordData<&'a [u8]> {
     /// `Form("record data too long")` if there are more than 65,535 octets. The parser is then
     /// unchanged.
     pub fn parse(rtype: Rtype, parser: &mut Parser<'a>) -> Result<Self, ParseError>
-        ensures read { Reads unknown (unknown_values (λ octets. octets.now)) fault_of parser.old
-            parser.new result }
+        ensures read { Reads unknown_layout (unknown_values (λ octets. octets.now))
+            fault_of parser.old parser.new result }
         ensures rtype { IfOk result (λ d. d.rtype ≡ rtype) }
     {
         let (AtMost, Rest(data)) = <(AtMost<MAX_RDLEN>, Rest<'a>)>::read(parser)?;
@@ -187,7 +187,7 @@ impl<'a> UnknownRecordData<&'a [u8]> {
 impl<'a> ParseRecordData<'a> for UnknownRecordData<&'a [u8]> {
     ghost is_read = { λ _. Unit {0} };
 
-    ghost layout = { unknown };
+    ghost layout = { unknown_layout };
 
     ghost values = { unknown_values (λ octets. octets.now) };
 
@@ -209,7 +209,7 @@ impl<O: Octets> CloneRecordData for UnknownRecordData<O> {
     ghost clone_rtype = { λ d copy same. same.0 };
 
     ghost clone_canonical = { λ d copy same.
-        same_values_tie unknown (unknown_values O.octets) d copy (λ i. (tt, same.1 i)) };
+        same_values_tie unknown_layout (unknown_values O.octets) d copy (λ i. (tt, same.1 i)) };
 }
 
 impl<S: Octets + Drop, O: CopyOctets> OctetsFrom<UnknownRecordData<S>> for UnknownRecordData<O> {
@@ -237,9 +237,9 @@ impl<O: Octets> RecordData for UnknownRecordData<O> {
 }
 
 impl<O: Octets> ComposeRecordData for UnknownRecordData<O> {
-    ghost octets = { λ d. octets_of unknown (unknown_values O.octets d) };
+    ghost octets = { λ d. octets_of unknown_layout (unknown_values O.octets d) };
 
-    ghost canonical = { λ d. canonical_of unknown (unknown_values O.octets d) };
+    ghost canonical = { λ d. canonical_of unknown_layout (unknown_values O.octets d) };
 
     fn room_after(&self, limit: usize) -> Option<usize> {
         self.fields().room_after(limit)
@@ -255,10 +255,10 @@ impl<O: Octets> ComposeRecordData for UnknownRecordData<O> {
 }
 
 impl<O: Octets> CanonicalOrd for UnknownRecordData<O> {
-    ghost canonical_cmp = { on (λ d. canonical_of unknown (unknown_values O.octets d))
+    ghost canonical_cmp = { on (λ d. canonical_of unknown_layout (unknown_values O.octets d))
         (slice_cmp nat_cmp) };
 
-    ghost total = { on_texts (λ d. canonical_of unknown (unknown_values O.octets d)) };
+    ghost total = { on_texts (λ d. canonical_of unknown_layout (unknown_values O.octets d)) };
 
     fn canonical_cmp(&self, other: &Self) -> Ordering {
         self.fields().order(&other.fields())

@@ -12,7 +12,8 @@ use Rattle.domain_rdata.specs.Zone.{kind_of, Content, fields, mere, content_of, 
 use Rattle.domain_rdata.specs.Scan.{AreOfKind, CopyFault, IsHeld, OctetsFault, FromOctets, RefusesKind, RefusesKnown}
 use Rattle.domain_rdata.specs.Scan.{RefusesOwn, RefusesRdata, in_own, in_generic, in_octets, RdataText, own, generic, ContentText, OwnText, AreContent}
 use Rattle.domain_rdata.specs.{Scan.{AreData, IsGeneric}, declared.zone_record_data.ZoneRecordData.{ZoneRecordData, TheVariants.{Ns, Soa, Unknown}}}
-use Rattle.domain_plain.{specs.Plain.{GenericText, generic_mark, generic_text, ns, soa, soa_values, soa_text, UnknownData}, proofs.PlainLemmas.generic_exact}
+use Rattle.domain_plain.specs.Plain.{GenericText, generic_mark, generic_text, ns_layout, soa_layout, soa_values, soa_text, UnknownData}
+use Rattle.domain_plain.proofs.PlainLemmas.{generic_exact}
 use Rattle.domain_plain.{proofs.PlainLemmas.generic_back, specs.declared.{ns.Ns.Ns as NsData, soa.Soa.Soa as SoaData}}
 use Rattle.domain_base.{specs.{Scan.{Refusal, IsNumber, TakesToken}, Numbers.{by_name, by_number, TypeText}}, proofs.TextLemmas.name_word}
 use Rattle.domain_keys.{specs.Keys.{key_values, KeyText}, proofs.DataLemmas.key_exact}
@@ -205,11 +206,11 @@ name_first labels rest valid marked = grind (arith, common_steps, first_word, na
 -- ---- data in their own form, or in the generic one
 
 module _ {O N : Type 0} (octets : O → List ℕ) (labels : N → List (List ℕ)) where
-  pub ns_text : (d : NsData N) → Scans ns (words_of (name_text (labels d.nsdname) ++ 46 ∷ [])) (labels d.nsdname) []
+  pub ns_text : (d : NsData N) → Scans ns_layout (words_of (name_text (labels d.nsdname) ++ 46 ∷ [])) (labels d.nsdname) []
       → RdataText octets labels rtypes.ns (words_of (name_text (labels d.nsdname) ++ 46 ∷ [])) (Ns d) []
   ns_text d read = own (name_alone (labels d.nsdname) (name_is_valid read.token (labels d.nsdname) read.holds)) (refl, read)
 
-  pub soa_back : (d : SoaData N) → IfSome (soa_text labels d) (λ text. Scans soa (words_of text) (soa_values labels d) [])
+  pub soa_back : (d : SoaData N) → IfSome (soa_text labels d) (λ text. Scans soa_layout (words_of text) (soa_values labels d) [])
       → IfSome (soa_text labels d) (λ text. RdataText octets labels rtypes.soa (words_of text) (Soa d) [])
   soa_back d read = own (name_first (labels d.mname) _ (name_is_valid read.1.1.token (labels d.mname) read.1.1.holds)) (refl, read)
 

@@ -85,7 +85,7 @@ IsHeld (a ▸ b) v part = IsHeld a v.0 part ⊎ IsHeld b v.1 part
 IsHeld _ v part = ⊥
 
 -- part is such a value in these data
-pub record IsPart (wire : Octets) (kind : Kind) (part : Octets) : Type 0 where
+pub record IsPartOfData (wire : Octets) (kind : Kind) (part : Octets) : Type 0 where
   pub values : Values (layout_of kind)
   pub whole : AreFields kind wire values
   pub held : IsHeld (layout_of kind) values part
@@ -113,10 +113,10 @@ OctetsFault limit (Some kind) wire entry_ends = ⊥
 OctetsFault limit (Some kind) wire (illegal said) =
     (said ≡ codes "illegal data") × (AreOfKind kind wire → ⊥)
 OctetsFault limit (Some kind) wire no_room =
-    (part : Octets) × IsPart wire kind part × IsOver limit (length part)
+    (part : Octets) × IsPartOfData wire kind part × IsOver limit (length part)
 OctetsFault limit (Some kind) wire no_memory =
     (AreOfKind kind wire × IsTrue (has_name (layout_of kind)))
-    ⊎ ((part : Octets) × IsPart wire kind part × IsNone limit)
+    ⊎ ((part : Octets) × IsPartOfData wire kind part × IsNone limit)
 
 -- what parsing the octets of a generic form as data of a kind guarantees
 pub record FromOctets {D : Type 0} (limit : Option ℕ) (kind : Kind)

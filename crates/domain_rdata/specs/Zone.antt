@@ -8,12 +8,13 @@ use Rattle.domain_base.specs.Scan.{Grammar}
 use Rattle.domain_fields.specs.{Layout.{Layout, Values, Begins, octets_of, canonical_of}, Scan.{Scans, AllTokens}}
 use Rattle.domain_codecs.specs.declared.codec.Codec.{Codec, TheVariants.{Base16, Base64}}
 use Rattle.domain_keys.specs.Keys.{KeyData, key_fields, key_data, key_values, KeyText, dnskey_text, ds_text}
-use Rattle.domain_rrsig.specs.Data.{RrsigData, rrsig, rrsig_data, of_numbers, rrsig_values, RrsigText, rrsig_text}
-use Rattle.domain_chain_rdata.specs.{Text.{NsecText, Nsec3Text, nsec3_text, Nsec3paramText, nsec3param_text}, Rdata.{nsec, nsec3}}
-use Rattle.domain_chain_rdata.specs.Rdata.{nsec3param, nsec_values, nsec3_values, nsec3param_values}
+use Rattle.domain_rrsig.specs.Data.{RrsigData, rrsig_layout, rrsig_data, of_numbers, rrsig_values, RrsigText, rrsig_text}
+use Rattle.domain_chain_rdata.specs.{Text.{NsecText, Nsec3Text, nsec3_text, Nsec3paramText, nsec3param_text}, Rdata.{nsec_layout, nsec3_layout}}
+use Rattle.domain_chain_rdata.specs.Rdata.{nsec3param_layout, nsec_values, nsec3_values, nsec3param_values}
 use Rattle.domain_names.specs.{Text.name_text, Name.Name}
 use Rattle.domain_bitmap.specs.{Blocks.{types_of, IsShortest}, Text.types_text}
-use Rattle.domain_plain.specs.Plain.{generic_text, a, a_values, ns, ns_values, soa, soa_values, mx, mx_values, unknown, soa_text}
+use Rattle.domain_plain.specs.Plain.{generic_text, a_layout, a_values, ns_layout, ns_values, soa_layout, soa_values, mx_layout, mx_values}
+use Rattle.domain_plain.specs.Plain.{unknown_layout, soa_text}
 use Rattle.domain_rdata.specs.declared.zone_record_data.ZoneRecordData.{ZoneRecordData, TheVariants.{A, Ns, Soa, Mx, Dnskey, Ds, Rrsig}}
 use Rattle.domain_rdata.specs.declared.zone_record_data.ZoneRecordData.TheVariants.{Nsec, Nsec3, Nsec3param, Unknown}
 use Rattle.domain_base.specs.Types as rtypes
@@ -33,10 +34,10 @@ pub data Kind : Type 0 where
 abbrev pub layout_of : Kind → Layout
 layout_of (plain l) = l
 layout_of (key codec) = key_fields
-layout_of signature = rrsig
-layout_of next_by_name = nsec
-layout_of next_by_hash = nsec3
-layout_of params = nsec3param
+layout_of signature = rrsig_layout
+layout_of next_by_name = nsec_layout
+layout_of next_by_hash = nsec3_layout
+layout_of params = nsec3param_layout
 
 -- all of the octets are these values, in wire form
 abbrev pub AreFields : (k : Kind) → Octets → Values (layout_of k) → Type 0
@@ -46,7 +47,7 @@ AreFields k wire v = Begins (layout_of k) wire v []
 abbrev pub key_of : Values key_fields → KeyData
 key_of v = key_data v.0 v.1.0 v.1.1.0 v.1.1.1.1
 
-abbrev pub rrsig_of : Values rrsig → RrsigData
+abbrev pub rrsig_of : Values rrsig_layout → RrsigData
 rrsig_of v = rrsig_data (of_numbers v.1.0.0 v.1.0.1) v.1.1
 
 -- the tokens begin with these values in the text form of the kind, and the other tokens are left
@@ -65,10 +66,10 @@ FieldsText params = Nsec3paramText
 -- data are just octets
 abbrev pub kind_of : ℕ → Option Kind
 kind_of rtype =
-    if rtype == rtypes.a then Some (plain a)
-    else (if rtype == rtypes.ns then Some (plain ns)
-    else (if rtype == rtypes.soa then Some (plain soa)
-    else (if rtype == rtypes.mx then Some (plain mx)
+    if rtype == rtypes.a then Some (plain a_layout)
+    else (if rtype == rtypes.ns then Some (plain ns_layout)
+    else (if rtype == rtypes.soa then Some (plain soa_layout)
+    else (if rtype == rtypes.mx then Some (plain mx_layout)
     else (if rtype == rtypes.dnskey then Some (key Base64)
     else (if rtype == rtypes.ds then Some (key Base16)
     else (if rtype == rtypes.rrsig then Some signature
@@ -97,10 +98,10 @@ pub data Content : Type 0 where
   mere : Octets → Content
 
 abbrev pub content_of : {O N : Type 0} → (O → Octets) → (N → Name) → ZoneRecordData O N → Content
-content_of octets labels (A d) = fields (plain a) (a_values d)
-content_of octets labels (Ns d) = fields (plain ns) (ns_values labels d)
-content_of octets labels (Soa d) = fields (plain soa) (soa_values labels d)
-content_of octets labels (Mx d) = fields (plain mx) (mx_values labels d)
+content_of octets labels (A d) = fields (plain a_layout) (a_values d)
+content_of octets labels (Ns d) = fields (plain ns_layout) (ns_values labels d)
+content_of octets labels (Soa d) = fields (plain soa_layout) (soa_values labels d)
+content_of octets labels (Mx d) = fields (plain mx_layout) (mx_values labels d)
 content_of octets labels (Dnskey d) = fields (key Base64) (key_values d)
 content_of octets labels (Ds d) = fields (key Base16) (key_values d)
 content_of octets labels (Rrsig d) = fields signature (rrsig_values d)
@@ -147,7 +148,7 @@ minimum_of _ = None
 -- the octets in wire form
 abbrev pub content_octets : Content → Octets
 content_octets (fields k v) = octets_of (layout_of k) v
-content_octets (mere o) = octets_of unknown (tt, o)
+content_octets (mere o) = octets_of unknown_layout (tt, o)
 
 abbrev pub wire_octets : {O N : Type 0} → (O → Octets) → (N → Name) → ZoneRecordData O N → Octets
 wire_octets octets labels d = content_octets (content_of octets labels d)
@@ -155,7 +156,7 @@ wire_octets octets labels d = content_octets (content_of octets labels d)
 -- the octets in canonical form (RFC 4034, section 6.2)
 abbrev pub content_canonical : Content → Octets
 content_canonical (fields k v) = canonical_of (layout_of k) v
-content_canonical (mere o) = canonical_of unknown (tt, o)
+content_canonical (mere o) = canonical_of unknown_layout (tt, o)
 
 abbrev pub canonical_octets : {O N : Type 0} → (O → Octets) → (N → Name)
     → ZoneRecordData O N → Octets

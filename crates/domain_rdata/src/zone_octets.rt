@@ -3,7 +3,7 @@
 
 ghost use Rattle.std.specs.Prelude.{◌≡◌, ◌<◌, ◌≤◌, ◌⊎◌, [], true, Some, None, codes, length, IfOk, IfErr, OnOk};
 ghost use Rattle.domain_names.specs.Text.{illegal, scan_fault_of};
-ghost use Rattle.domain_plain.specs.Plain.{a, a_values, ns, ns_values, soa, soa_values, mx, mx_values};
+ghost use Rattle.domain_plain.specs.Plain.{a_layout, a_values, ns_layout, ns_values, soa_layout, soa_values, mx_layout, mx_values};
 ghost use Rattle.domain_keys.specs.Keys.{key_values};
 ghost use Rattle.domain_rrsig.specs.Data.{rrsig_values};
 ghost use Rattle.domain_chain_rdata.specs.Rdata.{nsec_values, nsec3_values, nsec3param_values};
@@ -76,14 +76,14 @@ fn whole<'a, D: ParseRecordData<'a> + Drop>(
 
 /// Parses the octets as an IPv4 address.
 fn a_of(octets: &[u8]) -> Result<A, ScanError>
-    ensures { FromOctets None (plain a) a_values octets.now result }
+    ensures { FromOctets None (plain a_layout) a_values octets.now result }
 {
     Ok(whole(Rtype::A, octets)?)
 }
 
 /// Parses the octets as the name of a server.
 fn ns_of<N: MakeName>(alloc: Global, octets: &[u8]) -> Result<Ns<N>, ScanError>
-    ensures { FromOctets None (plain ns) (ns_values N.labels) octets.now result }
+    ensures { FromOctets None (plain ns_layout) (ns_values N.labels) octets.now result }
 {
     let data: Ns<ParsedName<'_>> = whole(Rtype::NS, octets)?;
     Ok(Ns::new(name_like(alloc, data.nsdname())?))
@@ -91,7 +91,7 @@ fn ns_of<N: MakeName>(alloc: Global, octets: &[u8]) -> Result<Ns<N>, ScanError>
 
 /// Parses the octets as SOA data.
 fn soa_of<N: MakeName + Drop>(alloc: Global, octets: &[u8]) -> Result<Soa<N>, ScanError>
-    ensures { FromOctets None (plain soa) (soa_values N.labels) octets.now result }
+    ensures { FromOctets None (plain soa_layout) (soa_values N.labels) octets.now result }
 {
     let data: Soa<ParsedName<'_>> = whole(Rtype::SOA, octets)?;
     let mname = name_like(alloc, data.mname())?;
@@ -109,7 +109,7 @@ fn soa_of<N: MakeName + Drop>(alloc: Global, octets: &[u8]) -> Result<Soa<N>, Sc
 
 /// Parses the octets as a mail exchange.
 fn mx_of<N: MakeName>(alloc: Global, octets: &[u8]) -> Result<Mx<N>, ScanError>
-    ensures { FromOctets None (plain mx) (mx_values N.labels) octets.now result }
+    ensures { FromOctets None (plain mx_layout) (mx_values N.labels) octets.now result }
 {
     let data: Mx<ParsedName<'_>> = whole(Rtype::MX, octets)?;
     Ok(Mx::new(data.preference(), name_like(alloc, data.exchange())?))

@@ -4,7 +4,7 @@ use Rattle.std.proofs.Common.{refl, sym, ap, subst, below_more, arith, ◌≤◌
 use Rattle.std.{proofs.lemmas.{Fn.says_at, Option.get_or_from_slice_get, List.get_or_default}, specs.{Fn.{Shared, FnReturnsAt}, List.{Any, slice_get}}}
 use Rattle.std.{specs.{List.{filter, list_any, remove, FoldsTo}, Option.{is_some, unwrap_or, option_transpose}}, proofs.lemmas.Bool.eq-eqb}
 use Rattle.std.{proofs.lemmas.{Grind.common_steps, List.Folds.concat-append}, specs.{Bool.beq, Fmt.{◌++?◌, WritesInCalls, WritesText}}}
-use Rattle.domain_records.specs.Sorted.{without_first, matches, IsFound, begins_with, group_at}
+use Rattle.domain_records.specs.Sorted.{without_first, record_matches, IsFound, begins_with, group_at}
 use Rattle.domain_groups.{specs.Groups.{same_rrset, IsFirstPlace, TakesRrset, add_to, runs}, proofs.GroupLemmas.{begins, runs_nil}}
 use Rattle.domain_groups.specs.declared.error.SigningError.{SigningError}
 use Rattle.domain_records.specs.Text.{texts}
@@ -63,7 +63,7 @@ module _ {N D : Type 0} (same : Record N D → Record N D → Bool) (rtype : D �
 module _ {N D : Type 0} (labels : N → List (List ℕ)) (rtype : D → ℕ) where
   -- records of one owner and one type match alike, where no class is asked
   pub matches_alike : (owner : List (List ℕ)) (type : Option ℕ) (r s : Record N D) → same_rrset labels rtype r s ≡ true
-      → matches labels rtype owner None type r ≡ matches labels rtype owner None type s
+      → record_matches labels rtype owner None type r ≡ record_matches labels rtype owner None type s
   matches_alike owner type r s h = grind (arith, common_steps, (same_name_equiv.congr (labels r.owner) (labels s.owner) owner))
 
 -- ---- One text after another.

@@ -39,9 +39,9 @@ is_asked None n = true
 is_asked (Some m) n = n == m
 
 -- a record of this owner, and of this class and type if they are given
-abbrev pub matches : {N D : Type 0} → (N → Name) → (D → ℕ) → Name → Option ℕ → Option ℕ
+abbrev pub record_matches : {N D : Type 0} → (N → Name) → (D → ℕ) → Name → Option ℕ → Option ℕ
     → Record N D → Bool
-matches labels rtype owner class type r =
+record_matches labels rtype owner class type r =
     same_name (labels r.owner) owner && (is_asked class r.class && is_asked type (rtype r.«data»))
 
 -- ---- What the calls on sorted records add, remove and change.

@@ -23,13 +23,13 @@ abbrev pub texts : {X : Type 0} → (X → Option Octets) → List X → Option 
 texts output [] = Some []
 texts output (x ∷ xs) = output x ++? texts output xs
 
-abbrev pub is_soa : {N D : Type 0} → (D → ℕ) → Record N D → Bool
-is_soa rtype r = rtype r.«data» == soa
+abbrev pub is_soa_record : {N D : Type 0} → (D → ℕ) → Record N D → Bool
+is_soa_record rtype r = rtype r.«data» == soa
 
 -- the SOA records and then the others, each part in order
 abbrev pub soa_first : {N D : Type 0} → (D → ℕ) → List (Record N D) → List (Record N D)
 soa_first rtype records =
-    filter (is_soa rtype) records ++ filter (λ r. not (is_soa rtype r)) records
+    filter (is_soa_record rtype) records ++ filter (λ r. not (is_soa_record rtype r)) records
 
 -- a call of f with x and a writer that returned `Ok`; the writer was w before it and v after it
 pub record Comments {F X W : Type 0}

@@ -5,7 +5,7 @@ ghost use Rattle.std.specs.Prelude.{Option, IsTrue, IfOk, IfErr, OnOk, OnErr, Is
 ghost use Rattle.std.specs.{List.{AllZip, list_any}, Fmt.WritesText, Slice.Iter.iter_rest, Option.ForSome};
 ghost use Rattle.std.specs.{Iterator.IsFiniteIterable, List.Sorted.IsStrictlySortedBy};
 ghost use Rattle.domain_groups.specs.Groups.{same_rrset, runs, IsFirstMatch, IsFirstPlace};
-ghost use Rattle.domain_records.specs.Sorted.{begins_with, group_at, matches, refused, without_first};
+ghost use Rattle.domain_records.specs.Sorted.{begins_with, group_at, record_matches, refused, without_first};
 ghost use Rattle.domain_records.specs.{Sorted.{AddsIfAbsent, Gives, IsFound, Updates}, Text.texts};
 ghost use Rattle.domain_records.specs.{Text.{soa_first, WritesWithComments}, Order.{IsOneClass, IsInOrder}};
 ghost use Rattle.domain_records.specs.Order.{IsUnion, Adds, Holds, GoesTo};
@@ -87,7 +87,7 @@ fn is_wanted<N: ToName, D: RecordData>(
     rtype: &Option<Rtype>,
 ) -> bool
     ensures { result
-        ≡ matches N.labels D.rtype (N.labels owner.now) class.now rtype.now stored.now }
+        ≡ record_matches N.labels D.rtype (N.labels owner.now) class.now rtype.now stored.now }
 {
     stored.owner().name_eq(owner)
         && stored.class() == (*class).unwrap_or(stored.class())
@@ -103,8 +103,8 @@ fn first_place<N: ToName, D: RecordData>(
     class: &Option<Class>,
     rtype: &Option<Rtype>,
 ) -> Option<usize>
-    ensures { IsFirstPlace (matches N.labels D.rtype (N.labels owner.now) class.now rtype.now)
-        records.now result }
+    ensures { IsFirstPlace (record_matches N.labels D.rtype (N.labels owner.now)
+        class.now rtype.now) records.now result }
 {
     let is_wanted = |stored: &Record<N, D>| is_wanted(stored, owner, class, rtype);
     SliceRefsOrOwned::new_from_owned(records).first_match(&is_wanted)
@@ -291,10 +291,10 @@ impl<N: ToName, D: RecordData + CanonicalOrd, Sort: Sorter> SortedRecords<N, D, 
         N: Drop,
         D: Drop,
         ensures kept { self.new
-            ≡ filter (λ r. not (matches N.labels D.rtype (N.labels name.now) class rtype r))
+            ≡ filter (λ r. not (record_matches N.labels D.rtype (N.labels name.now) class rtype r))
             self.old }
-        ensures found { result ≡ list_any (matches N.labels D.rtype (N.labels name.now) class rtype)
-            self.old }
+        ensures found { result ≡ list_any (record_matches N.labels D.rtype (N.labels name.now)
+            class rtype) self.old }
     {
         match first_place(&self.records, name, &class, &rtype) {
             Some(_) => {
@@ -318,9 +318,9 @@ impl<N: ToName, D: RecordData + CanonicalOrd, Sort: Sorter> SortedRecords<N, D, 
         N: Drop,
         D: Drop,
         ensures kept { self.new ≡ without_first
-            (matches N.labels D.rtype (N.labels name.now) class rtype) self.old }
-        ensures found { result ≡ list_any (matches N.labels D.rtype (N.labels name.now) class rtype)
-            self.old }
+            (record_matches N.labels D.rtype (N.labels name.now) class rtype) self.old }
+        ensures found { result ≡ list_any (record_matches N.labels D.rtype (N.labels name.now)
+            class rtype) self.old }
     {
         match first_place(&self.records, name, &class, &rtype) {
             Some(at) => {
@@ -404,8 +404,8 @@ impl<N: ToName, D: RecordData + CanonicalOrd, Sort: Sorter> SortedRecords<N, D, 
         rtype: Rtype,
     ) -> Result<Option<Rrset<'_, N, D>>, SigningError>
         ensures { IsFound D.rtype
-            (find (begins_with (matches N.labels D.rtype (N.labels apex.now) None (Some rtype)))
-            (runs (same_rrset N.labels D.rtype) self.now)) result }
+            (find (begins_with (record_matches N.labels D.rtype (N.labels apex.now) None
+            (Some rtype))) (runs (same_rrset N.labels D.rtype) self.now)) result }
     {
         let records = self.as_slice();
         rrset_at(records, first_place(records, apex, &None, &Some(rtype)))

@@ -1,7 +1,7 @@
 //! Records as text, SOA records first.
 ghost use Rattle.std.specs.Prelude.{◌∷◌, [], filter, OnOk};
 ghost use Rattle.std.specs.{Bool.beq, Fmt.WritesText, List.FoldsTo};
-ghost use Rattle.domain_records.specs.Text.{is_soa, soa_first, WritesLine};
+ghost use Rattle.domain_records.specs.Text.{is_soa_record, soa_first, WritesLine};
 
 use domain_base::Rtype;
 use domain_record::{Record, RecordData};
@@ -62,7 +62,7 @@ fn write_picked<N, D: RecordData, W, L: Line<Record<N, D>, W>>(
 ) -> fmt::Result
     requires { L.is_ready line.now }
     ensures { OnOk result (FoldsTo (L.writes line.now) target.old
-        (filter (λ r. beq (is_soa D.rtype r) of_soa) (item.now ∷ [])) target.new) }
+        (filter (λ r. beq (is_soa_record D.rtype r) of_soa) (item.now ∷ [])) target.new) }
 {
     if (item.rtype() == Rtype::SOA) != of_soa {
         return Ok(());
@@ -79,7 +79,7 @@ fn write_part<N, D: RecordData, W, L: Line<Record<N, D>, W>>(
 ) -> fmt::Result
     requires { L.is_ready line.now }
     ensures { OnOk result (FoldsTo (L.writes line.now) target.old
-        (filter (λ r. beq (is_soa D.rtype r) of_soa) records.now) target.new) }
+        (filter (λ r. beq (is_soa_record D.rtype r) of_soa) records.now) target.new) }
 {
     for item in records {
         write_picked(item, of_soa, target, line)?;

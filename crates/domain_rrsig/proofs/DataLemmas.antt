@@ -2,7 +2,7 @@
 use Rattle.std.proofs.{lemmas.Grind.common_steps, Common.{◌≡◌, ℕ, ◌+◌, ◌-◌, ◌%◌, ◌<◌, ◌≤◌, ◌↔◌, Option, None, Some, IsNone, IfSome, sym, subst, arith, List}}
 use Rattle.std.{proofs.{Common.{[], ◌++◌, length, refl, length-append, ◌∙◌, ◌∷◌}, lemmas.Fmt.{decimal_is_IsNumeral, length-decimal-le}}, specs.Option.SomeIff}
 use Rattle.std.specs.{Prelude.◌^◌, Fmt.decimal, Str.Parse.without_leading_plus, List.AllByRecursion}
-use Rattle.domain_rrsig.specs.Data.{IsNear, TimeAt, nearest, TimeToken, IsNoTime, TimeText, proto_rrsig, RrsigData, rrsig, rrsig_values, rrsig_octets}
+use Rattle.domain_rrsig.specs.Data.{IsNear, TimeAt, nearest, TimeToken, IsNoTime, TimeText, proto_rrsig, RrsigData, rrsig_layout, rrsig_values, rrsig_octets}
 use Rattle.domain_rrsig.specs.Data.{ProtoRrsigData, proto_rrsig_values, lengths, signer, rrsig_fields_text, RefusesRrsigFields, RrsigText, RefusesRrsig}
 use Rattle.domain_rrsig.specs.Data.{rrsig_fields, dotted, rrsig_words, rrsig_text}
 use Rattle.domain_fields.{specs.{Layout.{rest, one, ◌▸◌, Values, octets_of, Fits, Begins, ParsesBack}, Scan.IsExact}, proofs.ExactLemmas.parses_back}
@@ -42,12 +42,13 @@ pub ruleset after = (time_after, none_after)
 -- ---- how signatures are read
 
 -- data that were read have no more octets than a record can hold
-pub limit_of_rrsig : (octets : List ℕ) (v : Values rrsig) (after : List ℕ) → Begins rrsig octets v after → length (octets_of rrsig v) ≤ 65535
+pub limit_of_rrsig : (octets : List ℕ) (v : Values rrsig_layout) (after : List ℕ) → Begins rrsig_layout octets v after
+    → length (octets_of rrsig_layout v) ≤ 65535
 unfolding octets_of
 limit_of_rrsig octets v after begins = omega (arith, begins.ends.0, length-append (octets_of (proto_rrsig ▸ one rest) v.1) after)
 
 -- octets of fields that fit, and are no more than a record can hold, are read as them alone
-pub rrsig_back : (d : RrsigData) → Fits rrsig (rrsig_values d) → length (rrsig_octets d) ≤ 65535 → ParsesBack rrsig (rrsig_values d)
+pub rrsig_back : (d : RrsigData) → Fits rrsig_layout (rrsig_values d) → length (rrsig_octets d) ≤ 65535 → ParsesBack rrsig_layout (rrsig_values d)
 unfolding octets_of
 rrsig_back d fits brief =
     let limit : length (octets_of (proto_rrsig ▸ one rest) (rrsig_values d).1 ++ []) ≤ 65535 = omega (
@@ -55,7 +56,7 @@ rrsig_back d fits brief =
       brief,
       length-append (octets_of (proto_rrsig ▸ one rest) (rrsig_values d).1) [],
     ) in
-    parses_back rrsig _ refl fits (limit, ((((tt, (tt, tt)), ((tt, (tt, tt)), tt)), tt), refl))
+    parses_back rrsig_layout _ refl fits (limit, ((((tt, (tt, tt)), ((tt, (tt, tt)), tt)), tt), refl))
 
 -- ---- signatures as tokens
 
@@ -136,7 +137,7 @@ module _ (d : ProtoRrsigData) (fits : Fits proto_rrsig (proto_rrsig_values d)) w
         ),
       )
 
-pub rrsig_text_back : (d : RrsigData) → Fits rrsig (rrsig_values d) → length (rrsig_octets d) ≤ 65535 → RrsigText (words_of (rrsig_text d)) d
+pub rrsig_text_back : (d : RrsigData) → Fits rrsig_layout (rrsig_values d) → length (rrsig_octets d) ≤ 65535 → RrsigText (words_of (rrsig_text d)) d
 rrsig_text_back d fits brief = record {
   spelled = entry_line rrsig_fields_text Base64 (rrsig_words d.fields) (rrsig_fields d.fields) (encode_of standard d.signature) d.signature
       (all_words d.fields fits.1.0) (base64_plain _) (fields_text d.fields fits.1.0 _) (base64_back _ fits.1.1);

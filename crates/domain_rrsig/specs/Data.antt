@@ -102,18 +102,18 @@ abbrev pub rrsig_data : ProtoRrsigData → Octets → RrsigData
 rrsig_data fields signature = record { fields = fields; signature = signature }
 
 -- these fields and the signature, for data of at most 65,535 octets (RFC 4034, section 3.1)
-abbrev pub rrsig : Layout
-rrsig = one (at_most 65535) ▸ proto_rrsig ▸ one rest
+abbrev pub rrsig_layout : Layout
+rrsig_layout = one (at_most 65535) ▸ proto_rrsig ▸ one rest
 
-abbrev pub rrsig_values : RrsigData → Values rrsig
+abbrev pub rrsig_values : RrsigData → Values rrsig_layout
 rrsig_values d = (tt, (proto_rrsig_values d.fields, d.signature))
 
 abbrev pub rrsig_octets : RrsigData → Octets
-rrsig_octets d = octets_of rrsig (rrsig_values d)
+rrsig_octets d = octets_of rrsig_layout (rrsig_values d)
 
 -- the octets in canonical form, with the name of the signer lowered (RFC 4034, section 6.2)
 abbrev pub rrsig_canonical : RrsigData → Octets
-rrsig_canonical d = canonical_of rrsig (rrsig_values d)
+rrsig_canonical d = canonical_of rrsig_layout (rrsig_values d)
 
 -- the data are the same, except for the case of letters in the name of the signer
 pub record IsSameRrsig (a b : RrsigData) : Type 0 where

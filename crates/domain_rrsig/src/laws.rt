@@ -4,7 +4,7 @@ ghost use Rattle.std.specs.{Prelude.{◌<◌, ◌^◌, ℕ, Option}, Fmt.decimal
 ghost use Rattle.domain_octets.specs.Text.{words_of};
 ghost use Rattle.domain_names.specs.{Text.IsOfTokens, Name.Tokens};
 ghost use Rattle.domain_fields.specs.{Layout.ParsesBack, Scan.IsExactEntry};
-ghost use Rattle.domain_rrsig.specs.Data.{rrsig, rrsig_values, rrsig_text, RrsigText, RefusesRrsig, TimeText};
+ghost use Rattle.domain_rrsig.specs.Data.{rrsig_layout, rrsig_values, rrsig_text, RrsigText, RefusesRrsig, TimeText};
 ghost use Rattle.domain_rrsig.specs.Data.{TimeToken};
 
 use crate::Rrsig;
@@ -15,7 +15,7 @@ use domain_octets::Octets;
 /// signer's name keeps its spelling.
 #[tactic(auto, using(crate::proofs::DataLemmas::rrsig_back))]
 pub fn rrsig_parses_back<O: Octets, N: ToName>(value: &Rrsig<O, N>)
-    ensures { ParsesBack rrsig (rrsig_values value.now) }
+    ensures { ParsesBack rrsig_layout (rrsig_values value.now) }
 {
     let _fields = value.fields();
 }

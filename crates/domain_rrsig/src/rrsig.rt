@@ -6,7 +6,7 @@ ghost use Rattle.std.specs.Cmp.Lexicographic.{on_texts_equal};
 ghost use Rattle.domain_names.specs.{Wire.fault_of, Name.wire_of};
 ghost use Rattle.domain_fields.specs.Layout.{Fits, Reads, fed_alike, tied_octets};
 ghost use Rattle.domain_fields.specs.{Layout.copies_tied, Scan.AllTokens};
-ghost use Rattle.domain_rrsig.specs.Data.{rrsig, rrsig_values, rrsig_octets, rrsig_canonical, rrsig_data};
+ghost use Rattle.domain_rrsig.specs.Data.{rrsig_layout, rrsig_values, rrsig_octets, rrsig_canonical, rrsig_data};
 ghost use Rattle.domain_rrsig.specs.Data.{proto_rrsig_data, IsSameRrsig, rrsig_numbers_values, rrsig_text};
 ghost use Rattle.domain_rrsig.specs.Data.{rrsig_pieces, rrsig_fields, rrsig_fields_text, RefusesRrsigFields};
 ghost use Rattle.domain_rrsig.specs.Data.{RrsigText, RefusesRrsig};
@@ -240,7 +240,7 @@ impl<O: Octets, N: ToName> Rrsig<O, N> {
         ensures numbers { result.1.0.0 ≡ rrsig_numbers_values self.now.fields }
         ensures signer { result.1.0.1 ≡ self.now.fields.signer_name }
         ensures signature { result.1.1.0.now ≡ self.now.signature }
-        ensures fits { Fits rrsig (rrsig_values self.now) }
+        ensures fits { Fits rrsig_layout (rrsig_values self.now) }
         ensures limit { length (rrsig_octets self.now) ≤ 65535 }
     {
         let signature = self.signature.as_slice();
@@ -260,7 +260,7 @@ impl<'a> Rrsig<&'a [u8], ParsedName<'a>> {
     /// bad label")` at a length over 63 or a pointer, and `Form("long domain name")` at more than
     /// 255 octets. After an error the parser is unchanged.
     pub fn parse(parser: &mut Parser<'a>) -> Result<Self, ParseError>
-        ensures { Reads rrsig rrsig_values fault_of parser.old parser.new result }
+        ensures { Reads rrsig_layout rrsig_values fault_of parser.old parser.new result }
     {
         let (AtMost, ((numbers, signer_name), Rest(signature))) = RrsigFields::<'a>::read(parser)?;
         let fields = ProtoRrsig::of_parts(numbers, signer_name);
@@ -271,7 +271,7 @@ impl<'a> Rrsig<&'a [u8], ParsedName<'a>> {
 impl<'a> ParseRecordData<'a> for Rrsig<&'a [u8], ParsedName<'a>> {
     ghost is_read = { λ rtype. rtype ≡ rtypes.rrsig };
 
-    ghost layout = { rrsig };
+    ghost layout = { rrsig_layout };
 
     ghost values = { rrsig_values };
 

@@ -8,8 +8,8 @@ use Rattle.std.specs.{List.{AllByRecursion}, Char.to_ascii_lowercase}
 use Rattle.domain_names.specs.{Name.{Name, IsName, IsLabel, wire_of, lowered}, Wire.{IsWire, labels_within, labels_of}}
 use Rattle.domain_names.proofs.{WireLemmas.{length-wire_of, length-wire, IsWire-wire_of, labels_of-wire_of}, OrderLemmas.{lowered_wire, IsName-lowered}}
 use Rattle.domain_types.specs.Fields.{shape_of, IsGateway, HasGateway, absent, ipv4, ipv6, named, IsShape, IsField, BeginsWithNo}
-use Rattle.domain_types.specs.Fields.{AreMany, none, one_more, AreFields}
-use Rattle.domain_types.specs.Canonical.{name_size, gateway_size, shape_size, field_size, is_lowered, lowered_part, lowered_fields, IsData, canonical_octets}
+use Rattle.domain_types.specs.Fields.{AreMany, none, one_more, AreFieldOctets}
+use Rattle.domain_types.specs.Canonical.{name_size, gateway_size, shape_size, field_size, is_lowered, lowered_part, lowered_fields, IsData, canonical_form}
 use Rattle.domain_types.specs.Table.{fields_of, tail_of}
 use Rattle.domain_types.specs.declared.field.Field.{Field}
 use Rattle.domain_types.specs.declared.field.Tail.{Tail}
@@ -100,21 +100,22 @@ field_some field part is = omega (arith, is)
 -- ---- octets cut after a field
 
 pub fields_cut : (field : Field) (more : List Field) (tail : Tail) (octets : List ℕ) (n : ℕ) → n ≤ length octets → IsField field (take n octets)
-    → (AreFields more tail (drop n octets) ↔ AreFields (field ∷ more) tail octets)
+    → (AreFieldOctets more tail (drop n octets) ↔ AreFieldOctets (field ∷ more) tail octets)
 fields_cut field more tail octets n inside here = (
   λ rest. (take n octets, drop n octets, sym (take-append-drop n octets), here, rest),
-  λ has. subst (AreFields more tail) (one_rest field octets has.0 has.1 n inside here has.2 has.3) has.4,
+  λ has. subst (AreFieldOctets more tail) (one_rest field octets has.0 has.1 n inside here has.2 has.3) has.4,
 )
 
 -- the field at a place of the layout
 pub fields_next : (layout : List Field) (i : ℕ) (first : Field) (tail : Tail) (octets rest next : List ℕ) (n : ℕ) → i < length layout
     → n ≤ length rest → IsField (get_or layout i first) (take n rest) → next ≡ drop n rest
-    → (AreFields (drop i layout) tail rest ↔ AreFields layout tail octets) → (AreFields (drop (i + 1) layout) tail next ↔ AreFields layout tail octets)
+    → (AreFieldOctets (drop i layout) tail rest ↔ AreFieldOctets layout tail octets) → (AreFieldOctets (drop (i + 1) layout) tail next
+    ↔ AreFieldOctets layout tail octets)
 fields_next layout i first tail octets rest next n below inside here next_is before =
     let cut = fields_cut (get_or layout i first) (drop (suc i) layout) tail rest n inside here in
     let at : drop i layout ≡ get_or layout i first ∷ drop (suc i) layout = drop-cons layout i first below in
-    let whole = subst (λ l. AreFields l tail rest ↔ AreFields layout tail octets) at before in
-    subst (λ o. AreFields (drop (i + 1) layout) tail o ↔ AreFields layout tail octets) (sym next_is)
+    let whole = subst (λ l. AreFieldOctets l tail rest ↔ AreFieldOctets layout tail octets) at before in
+    subst (λ o. AreFieldOctets (drop (i + 1) layout) tail o ↔ AreFieldOctets layout tail octets) (sym next_is)
     (rw add-one (λ after. whole.0 (cut.0 after), λ all. cut.1 (whole.1 all)))
 
 pub field_whole : (field : Field) (octets : List ℕ) (n : ℕ) → n ≤ length octets → IsField field (take n octets)
@@ -147,7 +148,7 @@ many_none field octets some other (one_more o part after is there rest) = other 
 pub record IsLowering (layout : List Field) (i place start : ℕ) (before now : List ℕ) : Type 0 where
   pub inside : place ≤ length now
   pub size : length now ≡ length before
-  pub rest : (tail : Tail) × AreFields (drop i layout) tail (drop place now)
+  pub rest : (tail : Tail) × AreFieldOctets (drop i layout) tail (drop place now)
   pub done : take place now ++ lowered_fields (drop i layout) (drop place now) ≡ take start before ++ lowered_fields layout (drop start before)
 
 -- the fields of octets are lowered one by one
@@ -181,7 +182,7 @@ lowering_next layout i first place start len before now next below so inside her
     let low = lowered_part field part in
     let at : drop i layout ≡ field ∷ drop (suc i) layout = drop-cons layout i first below in
     let more : drop (i + 1) layout ≡ drop (suc i) layout = rw add-one refl in
-    let has = subst (λ l. AreFields l so.rest.0 octets) at so.rest.1 in
+    let has = subst (λ l. AreFieldOctets l so.rest.0 octets) at so.rest.1 in
     let rest = (fields_cut field (drop (suc i) layout) so.rest.0 octets len inside here).1 has in
     let parts : octets ≡ part ++ after = sym (take-append-drop len octets) in
     let low_size : length low ≡ len = length-lowered_part field part ∙ let e : length part ≡ len = grind (arith, common_steps) in e in
@@ -204,7 +205,7 @@ lowering_next layout i first place start len before now next below so inside her
       ) in e) ∙ so.size;
       rest = (
         so.rest.0,
-        subst (λ l. AreFields l so.rest.0 (drop (place + len) next)) (sym more) (subst (AreFields (drop (suc i) layout) so.rest.0)
+        subst (λ l. AreFieldOctets l so.rest.0 (drop (place + len) next)) (sym more) (subst (AreFieldOctets (drop (suc i) layout) so.rest.0)
             (sym back_is) rest),
       );
       done = ap (λ f. f ++ lowered_fields (drop (i + 1) layout) (drop (place + len) next)) front_is
@@ -250,13 +251,14 @@ part_twice : (field : Field) (part : List ℕ) → lowered_part field (lowered_p
 part_twice fields.LoweredName part = lowered_twice part
 part_twice field part = refl
 
-fields_data : (layout : List Field) (tail : Tail) (octets : List ℕ) → AreFields layout tail octets → AreFields layout tail (lowered_fields layout octets)
+fields_data : (layout : List Field) (tail : Tail) (octets : List ℕ) → AreFieldOctets layout tail octets
+    → AreFieldOctets layout tail (lowered_fields layout octets)
 fields_data [] tail octets is = is
 fields_data (field ∷ more) tail octets is =
-    subst (AreFields (field ∷ more) tail) (sym (lowered_next field more octets is.0 is.1 is.2 is.3))
+    subst (AreFieldOctets (field ∷ more) tail) (sym (lowered_next field more octets is.0 is.1 is.2 is.3))
     (lowered_part field is.0, lowered_fields more is.1, refl, lowered_field field is.0 is.3, fields_data more tail is.1 is.4)
 
-fields_again : (layout : List Field) (tail : Tail) (octets : List ℕ) → AreFields layout tail octets
+fields_again : (layout : List Field) (tail : Tail) (octets : List ℕ) → AreFieldOctets layout tail octets
     → lowered_fields layout (lowered_fields layout octets) ≡ lowered_fields layout octets
 fields_again [] tail octets is = refl
 fields_again (field ∷ more) tail octets is =
@@ -267,18 +269,19 @@ fields_again (field ∷ more) tail octets is =
     ∙ ap (λ l. l ++ lowered_fields more (lowered_fields more is.1)) (part_twice field is.0)
     ∙ ap (λ l. low ++ l) (fields_again more tail is.1 is.4) ∙ sym once
 
-fields_length : (layout : List Field) (tail : Tail) (octets : List ℕ) → AreFields layout tail octets → length (lowered_fields layout octets) ≡ length octets
+fields_length : (layout : List Field) (tail : Tail) (octets : List ℕ) → AreFieldOctets layout tail octets
+    → length (lowered_fields layout octets) ≡ length octets
 fields_length [] tail octets is = refl
 fields_length (field ∷ more) tail octets is =
     ap length (lowered_next field more octets is.0 is.1 is.2 is.3) ∙ length-append (lowered_part field is.0) (lowered_fields more is.1)
     ∙ ap (λ n. n + length (lowered_fields more is.1)) (length-lowered_part field is.0)
     ∙ ap (λ n. length is.0 + n) (fields_length more tail is.1 is.4) ∙ sym (length-append is.0 is.1) ∙ sym (ap length is.2)
 
-pub canonical_data : (t : ℕ) (octets : List ℕ) → IsData t octets → IsData t (canonical_octets t octets)
+pub canonical_data : (t : ℕ) (octets : List ℕ) → IsData t octets → IsData t (canonical_form t octets)
 canonical_data t octets is = fields_data (fields_of t) (tail_of t) octets is
 
-pub canonical_again : (t : ℕ) (octets : List ℕ) → IsData t octets → canonical_octets t (canonical_octets t octets) ≡ canonical_octets t octets
+pub canonical_again : (t : ℕ) (octets : List ℕ) → IsData t octets → canonical_form t (canonical_form t octets) ≡ canonical_form t octets
 canonical_again t octets is = fields_again (fields_of t) (tail_of t) octets is
 
-pub canonical_length : (t : ℕ) (octets : List ℕ) → IsData t octets → length (canonical_octets t octets) ≡ length octets
+pub canonical_length : (t : ℕ) (octets : List ℕ) → IsData t octets → length (canonical_form t octets) ≡ length octets
 canonical_length t octets is = fields_length (fields_of t) (tail_of t) octets is

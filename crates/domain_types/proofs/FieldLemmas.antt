@@ -5,7 +5,7 @@ use Rattle.std.proofs.lemmas.{Grind.common_steps, List.{take_at, drop_at, drop-t
 use Rattle.domain_octets.specs.Octets.{Place, Takes}
 use Rattle.domain_names.specs.{Name.{Name, IsName, wire_of}, Wire.{IsWire, NameFault, Fault, labels_of}}
 use Rattle.domain_names.proofs.WireLemmas.{IsWire-wire_of, no_name_fault}
-use Rattle.domain_types.specs.Fields.{IsGateway, HasGateway, absent, ipv4, ipv6, named, IsWord, IsShape, IsField, BeginsWithNo}
+use Rattle.domain_types.specs.Fields.{IsGateway, HasGateway, absent, ipv4, ipv6, named, IsTag, IsShape, IsField, BeginsWithNo}
 
 -- ---- names
 

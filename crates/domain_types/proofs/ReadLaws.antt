@@ -5,11 +5,11 @@ use Rattle.std.proofs.lemmas.{Grind.common_steps, List.{append-nil, length-repli
 use Rattle.std.specs.{Prelude.slice_index, Net.{Grammar.{IsColonHex}, Addr.octets_of}}
 use Rattle.domain_names.specs.{Name.{Name, IsName}, Wire.IsWire, Text.{NameText, root, of_labels}}
 use Rattle.domain_names.proofs.WireLemmas.{IsWire-wire_of}
-use Rattle.domain_types.specs.Fields.{IsField, AreMany, none, one_more, IsTail, AreFields}
+use Rattle.domain_types.specs.Fields.{IsField, AreMany, none, one_more, IsTail, AreFieldOctets}
 use Rattle.domain_types.specs.Spelling.{NameToken, at_origin, absolute, relative, NameField}
-use Rattle.domain_types.specs.Spelling.{PlainText, FieldText}
-use Rattle.domain_types.specs.Reading.{TokenText, Spells, TokenFault, ManyTexts, ManyFault, TailTexts, TailFault, LayoutTexts, LayoutFault}
-use Rattle.domain_types.specs.Reading.{BaseFault, QuotedFault, BaseTexts, QuotedTexts, GenericTexts, GenericFault, DataTexts, generic, own}
+use Rattle.domain_types.specs.Spelling.{PlainText, FieldSpelling}
+use Rattle.domain_types.specs.Reading.{TokenText, SpellsField, TokenFault, ManyTexts, ManyFault, TailTexts, TailFault, LayoutTexts, LayoutFault}
+use Rattle.domain_types.specs.Reading.{BaseFault, QuotedFault, BaseTexts, QuotedTexts, GenericTexts, GenericTextsFault, DataTexts, generic, own}
 use Rattle.domain_types.specs.Reading.{DataTextFault, in_generic, in_own}
 use Rattle.domain_types.specs.{Canonical.IsData, Table.{fields_of, tail_of}}
 use Rattle.domain_types.specs.declared.field.{Field.Field, Tail.Tail}
@@ -20,7 +20,7 @@ use Rattle.domain_types.specs.declared.token.DataFaultKind.TheVariants as kinds
 use Rattle.domain_codecs.specs.declared.codec.Codec.{Codec}
 use Rattle.hex.specs.{Hex.decode_of, declared.error.FromHexError.FromHexError}
 use Rattle.std.specs.{List.concat, Prelude.{Result, Ok}}
-use Rattle.domain_types.specs.Reading.{texts}
+use Rattle.domain_types.specs.Reading.{token_texts}
 use Rattle.domain_types.proofs.DataLemmas.{field_some}
 
 -- ---- what a token spells is a field of the kind
@@ -66,7 +66,7 @@ plain_valid fields.CharacterString text octets (string, spelled, fits, is) =
 plain_valid fields.Tag text octets (is, fits, word) = word
 plain_valid field text octets is = absurd (is)
 
-pub field_valid : (origin : Name) (field : Field) (text octets : List ℕ) → IsName origin → FieldText origin field text octets → IsField field octets
+pub field_valid : (origin : Name) (field : Field) (text octets : List ℕ) → IsName origin → FieldSpelling origin field text octets → IsField field octets
 field_valid origin fields.LoweredName text octets valid is = name_field origin text octets valid is
 field_valid origin fields.Name text octets valid is = name_field origin text octets valid is
 field_valid origin field text octets valid is = plain_valid field text octets is
@@ -104,7 +104,7 @@ tail_valid origin (tails.AtLeastOne field) tokens octets valid is =
 tail_valid origin (tails.AtMostOne field) tokens octets valid is = at_most_one origin field tokens octets valid is.0 is.1
 
 layout_valid : (origin : Name) (layout : List Field) (tail : Tail) (tokens : List TokenText) (octets : List ℕ) → IsName origin
-    → LayoutTexts origin layout tail tokens octets → AreFields layout tail octets
+    → LayoutTexts origin layout tail tokens octets → AreFieldOctets layout tail octets
 layout_valid origin [] tail tokens octets valid is = tail_valid origin tail tokens octets valid is
 layout_valid origin (field ∷ more) tail [] octets valid is = absurd (is)
 layout_valid origin (field ∷ more) tail (token ∷ tokens) octets valid is =
@@ -117,7 +117,7 @@ data_valid origin t tokens octets valid (own other is) = layout_valid origin (fi
 -- ---- tokens with a fault
 
 token_none : (origin : Name) (field : Field) (token : TokenText) (kind : DataFaultKind) (part : List ℕ) → TokenFault origin field token kind
-    → (kind ≡ OutOfMemory → ⊥) → Spells origin field token part → ⊥
+    → (kind ≡ OutOfMemory → ⊥) → SpellsField origin field token part → ⊥
 token_none origin field token kinds.Quoted part wrong real is = let e : true ≡ false = sym wrong ∙ is.quotes in cc
 token_none origin field token (kinds.NotField other) part wrong real is = wrong.1 part is
 token_none origin field token kinds.OutOfMemory part wrong real is = real refl
@@ -182,9 +182,9 @@ one_generic tokens x y first second =
     let parts : ◌≡◌ {A = List TokenText} (first.count ∷ first.digits) (second.count ∷ second.digits) = sym first.parts ∙ second.parts in
     let digits : first.digits ≡ second.digits = ap (drop 1) parts in
     let both : ◌≡◌ {A = Result (List ℕ) FromHexError} (Ok x) (Ok y) =
-    sym first.decodes ∙ ap (λ d. decode_of (concat (texts d))) digits ∙ second.decodes in cc
+    sym first.decodes ∙ ap (λ d. decode_of (concat (token_texts d))) digits ∙ second.decodes in cc
 
-generic_none : (t : ℕ) (tokens : List TokenText) (place : ℕ) (kind : DataFaultKind) (octets : List ℕ) → GenericFault t tokens place kind
+generic_none : (t : ℕ) (tokens : List TokenText) (place : ℕ) (kind : DataFaultKind) (octets : List ℕ) → GenericTextsFault t tokens place kind
     → (kind ≡ OutOfMemory → ⊥) → GenericTexts tokens octets → IsData t octets → ⊥
 generic_none t tokens place kinds.NotGeneric octets wrong real spelled is = wrong.1 octets spelled
 generic_none t tokens place kinds.NotData octets wrong real spelled is =

@@ -3,9 +3,10 @@ use Rattle.std.proofs.Common.{◌≡◌, ℕ, zero, suc, ◌+◌, ◌-◌, ◌<�
 use Rattle.std.proofs.Common.{inl, inr, false, add-one, drop-cons}
 use Rattle.std.proofs.lemmas.{Grind.common_steps, List.{append_assoc, append-nil, take_rest}}
 use Rattle.domain_names.specs.Name.{Name}
-use Rattle.domain_types.specs.Spelling.{FieldText}
+use Rattle.domain_types.specs.Spelling.{FieldSpelling}
 use Rattle.domain_types.specs.declared.token.Token.{Token}
-use Rattle.domain_types.specs.Reading.{TokenText, token_text, Spells, TokenFault, ManyTexts, ManyFault, LayoutTexts, LayoutFault, AreRead, AreUnquoted, texts}
+use Rattle.domain_types.specs.Reading.{TokenText, token_text, SpellsField, TokenFault, ManyTexts, ManyFault, LayoutTexts, LayoutFault, AreRead}
+use Rattle.domain_types.specs.Reading.{AreUnquoted, token_texts}
 use Rattle.domain_types.specs.Reading.{TailTexts, TailFault, IsMarked, BaseTexts, BaseFault, QuotedFault, tail_kind}
 use Rattle.domain_types.specs.Spelling.{SpellsNothing, StringText}
 use Rattle.domain_codecs.specs.{Codec.Decodes, declared.codec.Codec.Codec}
@@ -18,8 +19,8 @@ use Rattle.domain_types.specs.declared.field.Tail.{Tail}
 use Rattle.domain_types.specs.declared.field.Field.{Field}
 use Rattle.domain_types.specs.declared.token.DataFaultKind.{DataFaultKind}
 
-pub spells_nothing : (origin : Name) (field : Field) (token : TokenText) → ((octets : List ℕ) → FieldText origin field token.octets octets → ⊥)
-    → (octets : List ℕ) → Spells origin field token octets → ⊥
+pub spells_nothing : (origin : Name) (field : Field) (token : TokenText) → ((octets : List ℕ) → FieldSpelling origin field token.octets octets → ⊥)
+    → (octets : List ℕ) → SpellsField origin field token octets → ⊥
 spells_nothing origin field token none octets is = none octets is.text
 
 pub ruleset field_steps = (common_steps, spells_nothing)
@@ -38,7 +39,7 @@ many_at tokens place token below at = drop-cons tokens place token below ∙ ap 
 
 pub many_next : (origin : Name) (field : Field) (tokens : List TokenText) (place : ℕ) (token : TokenText) (part old now next : List ℕ)
     → place < length tokens → token ≡ get_or tokens place token → IsReadMany origin field tokens place old now
-    → Spells origin field token part → next ≡ now ++ part → IsReadMany origin field tokens (place + 1) old next
+    → SpellsField origin field token part → next ≡ now ++ part → IsReadMany origin field tokens (place + 1) old next
 many_next origin field tokens place token part old now next below at so spells next_is =
     let rest = many_at tokens place token below at in
     record {
@@ -88,7 +89,7 @@ field_at layout place field first below at = drop-cons layout place first below 
 
 pub layout_next : (origin : Name) (layout : List Field) (tokens : List TokenText) (place : ℕ) (field first : Field) (token : TokenText)
     (part old now next : List ℕ) → place < length layout → field ≡ get_or layout place first → place < length tokens
-    → token ≡ get_or tokens place token → AreRead origin layout tokens place old now → Spells origin field token part → next ≡ now ++ part
+    → token ≡ get_or tokens place token → AreRead origin layout tokens place old now → SpellsField origin field token part → next ≡ now ++ part
     → AreRead origin layout tokens (place + 1) old next
 layout_next origin layout tokens place field first token part old now next in_layout is_field in_tokens is_token so spells next_is =
     let kinds = field_at layout place field first in_layout is_field in
@@ -132,12 +133,12 @@ layout_missing origin layout tokens place first old now tail in_layout over so =
 -- ---- tails
 
 pub base_texts : (codec : Codec) (tokens : List TokenText) (text octets : List ℕ) → 0 < length tokens → AreUnquoted tokens
-    → text ≡ concat (texts tokens) → Decodes codec text octets → BaseTexts codec tokens octets
+    → text ≡ concat (token_texts tokens) → Decodes codec text octets → BaseTexts codec tokens octets
 base_texts codec tokens text octets some unquoted text_is is =
     record { some = some; unquoted = unquoted; decodes = subst (λ t. Decodes codec t octets) text_is is }
 
 pub base_fault : (codec : Codec) (tail : Tail) (tokens : List TokenText) (text : List ℕ) (fault : SpellFault) (place : ℕ) (kind : DataFaultKind)
-    → 0 < length tokens → text ≡ concat (texts tokens) → SpellsNothing (Decodes codec text) fault → place ≡ 0 → kind ≡ tail_kind fault tail
+    → 0 < length tokens → text ≡ concat (token_texts tokens) → SpellsNothing (Decodes codec text) fault → place ≡ 0 → kind ≡ tail_kind fault tail
     → BaseFault codec tail tokens place kind
 base_fault codec tail tokens text spell.Invalid place kind some text_is none at is =
     subst (BaseFault codec tail tokens place) (sym is)

@@ -9,7 +9,7 @@ use Rattle.domain_names.proofs.WireLemmas.{length-wire_of}
 use Rattle.std.proofs.Math.Seq.{take-append-add}
 use Rattle.std.proofs.Common.{None, Option}
 use Rattle.domain_types.specs.Spelling.{NameToken, at_origin, absolute, relative, NameField, ends_in_dot, string_octet, StringText, string_ends, string_goes}
-use Rattle.domain_types.specs.Spelling.{FieldText, PlainText}
+use Rattle.domain_types.specs.Spelling.{FieldSpelling, PlainText}
 use Rattle.domain_types.specs.declared.field.Field.{Field}
 use Rattle.domain_types.specs.declared.field.Field.TheVariants as fields
 use Rattle.domain_names.proofs.TextLemmas.{one_name}
@@ -235,7 +235,7 @@ pub ruleset string_steps = (common_steps, string_begins, string_next, string_end
 
 -- a field that is no name
 pub plain_field : (origin : Name) (field : Field) (text octets : List ℕ) → (field ≡ fields.LoweredName → ⊥) → (field ≡ fields.Name → ⊥)
-    → FieldText origin field text octets → PlainText field text octets
+    → FieldSpelling origin field text octets → PlainText field text octets
 plain_field origin fields.LoweredName text octets lowered name is = absurd (lowered refl)
 plain_field origin fields.Name text octets lowered name is = absurd (name refl)
 plain_field origin field text octets lowered name is = is

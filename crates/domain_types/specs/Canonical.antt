@@ -3,14 +3,14 @@ use Rattle.std.specs.Prelude.{ℕ, ◌+◌, ◌*◌, ◌%◌, ◌==◌, Bool, tr
 use Rattle.std.specs.{Char.to_ascii_lowercase}
 use Rattle.domain_octets.specs.Octets.{Octets}
 use Rattle.domain_names.specs.{Name.wire_of, Wire.labels_of}
-use Rattle.domain_types.specs.{Fields.{AreFields, shape_of}, Table.{fields_of, tail_of}}
+use Rattle.domain_types.specs.{Fields.{AreFieldOctets, shape_of}, Table.{fields_of, tail_of}}
 use Rattle.domain_types.specs.declared.field.Field.{Field, TheVariants.LoweredName}
 use Rattle.domain_types.specs.declared.field.Shape.{Shape}
 use Rattle.domain_types.specs.declared.field.Shape.TheVariants.{Exactly, Domain, Counted, Word, AfterTwo, AfterOne, TwoCounted, CountedInBits, CountedLong}
 
 -- the octets are data of the type
 abbrev pub IsData : ℕ → Octets → Type 0
-IsData t octets = AreFields (fields_of t) (tail_of t) octets
+IsData t octets = AreFieldOctets (fields_of t) (tail_of t) octets
 
 -- ---- where the first field ends, in octets that begin with one
 
@@ -56,5 +56,5 @@ lowered_fields (field ∷ more) octets =
     lowered_part field (take size octets) ++ lowered_fields more (drop size octets)
 
 -- the canonical form of data of the type
-abbrev pub canonical_octets : ℕ → Octets → Octets
-canonical_octets t octets = lowered_fields (fields_of t) octets
+abbrev pub canonical_form : ℕ → Octets → Octets
+canonical_form t octets = lowered_fields (fields_of t) octets

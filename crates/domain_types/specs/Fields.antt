@@ -54,7 +54,7 @@ pub record HasGateway (first kind : ℕ) (octets : Octets) : Type 0 where
   pub gateway : IsGateway kind (drop first octets)
 
 -- a length octet, and as many letters and digits, at least one
-pub record IsWord (octets : Octets) : Type 0 where
+pub record IsTag (octets : Octets) : Type 0 where
   pub some : 1 < length octets
   pub counted : length octets ≡ 1 + slice_index octets 0
   pub letters : AllByRecursion (λ c. IsTrue (is_ascii_alphanumeric c)) (drop 1 octets)
@@ -64,7 +64,7 @@ abbrev pub IsShape : Shape → Octets → Type 0
 IsShape (Exactly count) octets = length octets ≡ count
 IsShape Domain octets = IsWire octets
 IsShape Counted octets = length octets ≡ 1 + slice_index octets 0
-IsShape Word octets = IsWord octets
+IsShape Word octets = IsTag octets
 IsShape AfterTwo octets = HasGateway 2 (slice_index octets 0) octets
 IsShape AfterOne octets = HasGateway 1 (slice_index octets 0 % 128) octets
 IsShape TwoCounted octets =
@@ -101,8 +101,8 @@ IsTail (AtLeastOne field) octets = (0 < length octets) × AreMany field octets
 IsTail (AtMostOne field) octets = (octets ≡ []) ⊎ IsField field octets
 
 -- the octets are fields of these kinds, one after another, and then the tail
-abbrev pub AreFields : List Field → Tail → Octets → Type 0
-AreFields [] tail octets = IsTail tail octets
-AreFields (field ∷ more) tail octets =
+abbrev pub AreFieldOctets : List Field → Tail → Octets → Type 0
+AreFieldOctets [] tail octets = IsTail tail octets
+AreFieldOctets (field ∷ more) tail octets =
     (part : Octets) × (after : Octets) × (octets ≡ part ++ after) × IsField field part
-    × AreFields more tail after
+    × AreFieldOctets more tail after

@@ -7,7 +7,7 @@ use Rattle.domain_names.specs.Name.{Name}
 use Rattle.domain_base.specs.Scan.{IsNumber}
 use Rattle.domain_codecs.specs.{Codec.Decodes, declared.codec.Codec.{Codec}}
 use Rattle.domain_codecs.specs.declared.codec.Codec.TheVariants as codecs
-use Rattle.domain_types.specs.{Canonical.IsData, Spelling.{FieldText, StringText}, Table.{fields_of, tail_of}}
+use Rattle.domain_types.specs.{Canonical.IsData, Spelling.{FieldSpelling, StringText}, Table.{fields_of, tail_of}}
 use Rattle.domain_types.specs.declared.field.Field.{Field, TheVariants.CharacterString}
 use Rattle.domain_types.specs.declared.field.Tail.{Tail}
 use Rattle.domain_types.specs.declared.field.Tail.TheVariants as tails
@@ -26,8 +26,8 @@ pub record TokenText : Type 0 where
 abbrev pub token_text : Token → TokenText
 token_text token = record { octets = token.octets.now; is_quoted = token.is_quoted }
 
-abbrev pub texts : List TokenText → List Octets
-texts = map (λ token. token.octets)
+abbrev pub token_texts : List TokenText → List Octets
+token_texts = map (λ token. token.octets)
 
 -- octets were appended
 pub record Grows (old new : Octets) : Type 0 where
@@ -44,16 +44,16 @@ abbrev pub is_misquoted : Field → TokenText → Bool
 is_misquoted field token = token.is_quoted && not (may_be_quoted field)
 
 -- the token spells the octets of a field of this kind
-pub record Spells (origin : Name) (field : Field) (token : TokenText) (octets : Octets)
+pub record SpellsField (origin : Name) (field : Field) (token : TokenText) (octets : Octets)
     : Type 0 where
   pub quotes : is_misquoted field token ≡ false
-  pub text : FieldText origin field token.octets octets
+  pub text : FieldSpelling origin field token.octets octets
 
 -- the fault of a token that has to spell a field of this kind
 abbrev pub TokenFault : Name → Field → TokenText → DataFaultKind → Type 0
 TokenFault origin field token Quoted = is_misquoted field token ≡ true
 TokenFault origin field token (NotField other) =
-    (other ≡ field) × ((octets : Octets) → Spells origin field token octets → ⊥)
+    (other ≡ field) × ((octets : Octets) → SpellsField origin field token octets → ⊥)
 TokenFault origin field token OutOfMemory = Unit {0}
 TokenFault origin field token kind = ⊥
 
@@ -62,14 +62,14 @@ abbrev pub ManyTexts : Name → Field → List TokenText → Octets → Type 0
 ManyTexts origin field [] octets = octets ≡ []
 ManyTexts origin field (token ∷ tokens) octets =
     (part : Octets) × (after : Octets) × (octets ≡ part ++ after)
-    × Spells origin field token part × ManyTexts origin field tokens after
+    × SpellsField origin field token part × ManyTexts origin field tokens after
 
 -- the first token that spells no field of this kind, by its place, and its fault
 abbrev pub ManyFault : Name → Field → List TokenText → ℕ → DataFaultKind → Type 0
 ManyFault origin field [] place kind = ⊥
 ManyFault origin field (token ∷ tokens) place kind =
     ((place ≡ 0) × TokenFault origin field token kind)
-    ⊎ (((part : Octets) × Spells origin field token part)
+    ⊎ (((part : Octets) × SpellsField origin field token part)
     × ((before : ℕ) × (place ≡ before + 1) × ManyFault origin field tokens before kind))
 
 -- ---- tails
@@ -81,7 +81,7 @@ AreUnquoted tokens = AllByRecursion (λ token. token.is_quoted ≡ false) tokens
 pub record BaseTexts (codec : Codec) (tokens : List TokenText) (octets : Octets) : Type 0 where
   pub some : 0 < length tokens
   pub unquoted : AreUnquoted tokens
-  pub decodes : Decodes codec (concat (texts tokens)) octets
+  pub decodes : Decodes codec (concat (token_texts tokens)) octets
 
 -- the kind of the fault of tokens that do not spell a tail
 abbrev pub tail_kind : SpellFault → Tail → DataFaultKind
@@ -154,7 +154,7 @@ LayoutTexts origin [] tail tokens octets = TailTexts origin tail tokens octets
 LayoutTexts origin (field ∷ more) tail [] octets = ⊥
 LayoutTexts origin (field ∷ more) tail (token ∷ tokens) octets =
     (part : Octets) × (after : Octets) × (octets ≡ part ++ after)
-    × Spells origin field token part × LayoutTexts origin more tail tokens after
+    × SpellsField origin field token part × LayoutTexts origin more tail tokens after
 
 -- the first fault of tokens that have to spell these, by its place
 abbrev pub LayoutFault : Name → List Field → Tail → List TokenText → ℕ → DataFaultKind → Type 0
@@ -162,7 +162,7 @@ LayoutFault origin [] tail tokens place kind = TailFault origin tail tokens plac
 LayoutFault origin (field ∷ more) tail [] place kind = (place ≡ 0) × (kind ≡ Missing)
 LayoutFault origin (field ∷ more) tail (token ∷ tokens) place kind =
     ((place ≡ 0) × TokenFault origin field token kind)
-    ⊎ (((part : Octets) × Spells origin field token part)
+    ⊎ (((part : Octets) × SpellsField origin field token part)
     × ((before : ℕ) × (place ≡ before + 1) × LayoutFault origin more tail tokens before kind))
 
 -- the first tokens up to `place` spell the fields up to it, and their octets were appended; what is
@@ -192,16 +192,16 @@ pub record GenericTexts (tokens : List TokenText) (octets : Octets) : Type 0 whe
   pub parts : tokens ≡ count ∷ digits
   pub unquoted : AreUnquoted tokens
   pub number : IsNumber 16 count.octets (length octets)
-  pub decodes : Decodes codecs.Base16 (concat (texts digits)) octets
+  pub decodes : Decodes codecs.Base16 (concat (token_texts digits)) octets
 
 -- the fault of tokens after the mark
-abbrev pub GenericFault : ℕ → List TokenText → ℕ → DataFaultKind → Type 0
-GenericFault t tokens place NotGeneric =
+abbrev pub GenericTextsFault : ℕ → List TokenText → ℕ → DataFaultKind → Type 0
+GenericTextsFault t tokens place NotGeneric =
     (place ≡ 1) × ((octets : Octets) → GenericTexts tokens octets → ⊥)
-GenericFault t tokens place NotData =
+GenericTextsFault t tokens place NotData =
     (place ≡ 1) × ((octets : Octets) × GenericTexts tokens octets × (IsData t octets → ⊥))
-GenericFault t tokens place OutOfMemory = Unit {0}
-GenericFault t tokens place kind = ⊥
+GenericTextsFault t tokens place OutOfMemory = Unit {0}
+GenericTextsFault t tokens place kind = ⊥
 
 -- ---- data of a type
 
@@ -216,7 +216,7 @@ pub data DataTexts (origin : Name) (t : ℕ) (tokens : List TokenText) (octets :
 -- the first fault of tokens that have to spell data of the type, by its place
 pub data DataTextFault (origin : Name) (t : ℕ) (tokens : List TokenText) (place : ℕ)
     (kind : DataFaultKind) : Type 0 where
-  in_generic : IsMarked tokens → GenericFault t (drop 1 tokens) place kind
+  in_generic : IsMarked tokens → GenericTextsFault t (drop 1 tokens) place kind
       → DataTextFault origin t tokens place kind
   in_own : (IsMarked tokens → ⊥)
       → LayoutFault origin (fields_of t) (tail_of t) tokens place kind

@@ -6,7 +6,7 @@ use Rattle.std.specs.declared.net.ipv6_addr.Ipv6Addr.{Ipv6Addr}
 use Rattle.domain_octets.specs.{Octets.Octets, Text.{dot, at_sign, backslash, digit_zero}}
 use Rattle.domain_names.specs.{Name.{Name, IsName, wire_of}, Text.NameText}
 use Rattle.domain_base.specs.Scan.{IsNumber}
-use Rattle.domain_types.specs.{Table.MnemonicText, Fields.IsWord}
+use Rattle.domain_types.specs.{Table.MnemonicText, Fields.IsTag}
 use Rattle.domain_types.specs.declared.field.Field.{Field}
 use Rattle.domain_types.specs.declared.field.Field.TheVariants as fields
 use Rattle.domain_types.specs.declared.spell.Going.{Going, TheVariants.{Inside, Escaped, AfterDot}}
@@ -95,7 +95,7 @@ StringField text octets =
 
 -- letters and digits, after their length
 abbrev pub TagText : Octets → Octets → Type 0
-TagText text octets = (octets ≡ length text ∷ text) × (length text ≤ 255) × IsWord octets
+TagText text octets = (octets ≡ length text ∷ text) × (length text ≤ 255) × IsTag octets
 
 -- the text spells the octets of a field that is no name; the kinds without a text of their own are
 -- spelled by no text: their data are read in the generic form
@@ -116,14 +116,14 @@ PlainText fields.Tag text octets = TagText text octets
 PlainText _ text octets = ⊥
 
 -- the text spells the octets of a field of this kind
-abbrev pub FieldText : Name → Field → Octets → Octets → Type 0
-FieldText origin fields.LoweredName text octets = NameField origin text octets
-FieldText origin fields.Name text octets = NameField origin text octets
-FieldText origin field text octets = PlainText field text octets
+abbrev pub FieldSpelling : Name → Field → Octets → Octets → Type 0
+FieldSpelling origin fields.LoweredName text octets = NameField origin text octets
+FieldSpelling origin fields.Name text octets = NameField origin text octets
+FieldSpelling origin field text octets = PlainText field text octets
 
 -- ---- the reasons why a token gives no field
 
 -- no value is spelled, or memory ran out
 abbrev pub SpellsNothing : {V : Type 0} → (V → Type 0) → SpellFault → Type 0
-SpellsNothing {V} Spells Invalid = (v : V) → Spells v → ⊥
-SpellsNothing Spells OutOfMemory = Unit {0}
+SpellsNothing {V} SpellsField Invalid = (v : V) → SpellsField v → ⊥
+SpellsNothing SpellsField OutOfMemory = Unit {0}

@@ -1,8 +1,8 @@
 //! The canonical form of data (RFC 4034, section 6.2; RFC 6840, section 5.1).
 ghost use Rattle.std.specs.Prelude.{◌≡◌, ◌+◌, ◌++◌, ◌≤◌, length, take, drop, map, OnErr, OnOk};
 ghost use Rattle.std.specs.{Char.to_ascii_lowercase};
-ghost use Rattle.domain_types.specs.Fields.{AreFields};
-ghost use Rattle.domain_types.specs.Canonical.{IsData, lowered_part, lowered_fields, canonical_octets};
+ghost use Rattle.domain_types.specs.Fields.{AreFieldOctets};
+ghost use Rattle.domain_types.specs.Canonical.{IsData, lowered_part, lowered_fields, canonical_form};
 ghost use Rattle.domain_types.specs.declared.field.Tail.{Tail};
 
 use crate::data::is_data;
@@ -27,7 +27,7 @@ fn lower_part(field: Field, octets: &mut [u8], start: usize, len: usize)
 /// Lowers the names of the fields that begin at a place of the octets.
 fn lower_fields(fields: &[Field], octets: &mut [u8], start: usize)
     requires inside { start ≤ length octets.old }
-    requires fields { (tail : Tail) × AreFields fields.now tail (drop start octets.old) }
+    requires fields { (tail : Tail) × AreFieldOctets fields.now tail (drop start octets.old) }
     ensures { octets.new ≡ take start octets.old
         ++ lowered_fields fields.now (drop start octets.old) }
 {
@@ -50,7 +50,7 @@ fn lower_fields(fields: &[Field], octets: &mut [u8], start: usize)
 /// `AllocError` if there is no memory for the octets. `out` is then unchanged.
 pub fn put_canonical(rtype: Rtype, octets: &[u8], out: &mut Vec<u8>) -> Result<(), AllocError>
     ensures lowered { OnOk result (IsData rtype octets.now
-        → out.new.items ≡ out.old.items ++ canonical_octets rtype octets.now) }
+        → out.new.items ≡ out.old.items ++ canonical_form rtype octets.now) }
     ensures other { OnOk result ((IsData rtype octets.now → ⊥)
         → out.new.items ≡ out.old.items ++ octets.now) }
     ensures err { OnErr result (out.new.items ≡ out.old.items) }

@@ -1,8 +1,8 @@
 //! Data of a type.
 ghost use Rattle.std.specs.Prelude.{◌≡◌, ◌↔◌, ℕ, ◌++◌, ◌≤◌, length, take, drop, map, IfSome, IfNone, IsTrue, OnErr, OnOk, slice_range};
 ghost use Rattle.std.specs.{Char.to_ascii_lowercase};
-ghost use Rattle.domain_types.specs.Fields.{IsTail, IsField, AreFields, AreMany};
-ghost use Rattle.domain_types.specs.Canonical.{IsData, lowered_fields, canonical_octets};
+ghost use Rattle.domain_types.specs.Fields.{IsTail, IsField, AreFieldOctets, AreMany};
+ghost use Rattle.domain_types.specs.Canonical.{IsData, lowered_fields, canonical_form};
 ghost use Rattle.domain_types.specs.declared.field.Tail.{Tail};
 
 use crate::field::{Field, Tail};
@@ -15,8 +15,8 @@ use std::alloc::AllocError;
 /// Returns what follows these fields, if the octets begin with them.
 fn after_fields<'a>(fields: &[Field], octets: &'a [u8]) -> Option<&'a [u8]>
     ensures some { IfSome result (λ rest. (tail : Tail)
-        → (IsTail tail rest.now ↔ AreFields fields.now tail octets.now)) }
-    ensures none { IfNone result ((tail : Tail) → AreFields fields.now tail octets.now → ⊥) }
+        → (IsTail tail rest.now ↔ AreFieldOctets fields.now tail octets.now)) }
+    ensures none { IfNone result ((tail : Tail) → AreFieldOctets fields.now tail octets.now → ⊥) }
 {
     let mut rest = octets;
     for field in fields {

@@ -5,8 +5,8 @@ ghost use Rattle.std.specs.{List.AllByRecursion, Fmt.decimal};
 ghost use Rattle.domain_octets.specs.Octets.{Octets};
 ghost use Rattle.domain_names.specs.Name.{Name, IsName, wire_of, lowered};
 ghost use Rattle.domain_types.specs.Table.{type_rows, row_in, mnemonic_of, MnemonicText};
-ghost use Rattle.domain_types.specs.Fields.{IsField, AreFields};
-ghost use Rattle.domain_types.specs.Canonical.{IsData, lowered_part, lowered_fields, canonical_octets};
+ghost use Rattle.domain_types.specs.Fields.{IsField, AreFieldOctets};
+ghost use Rattle.domain_types.specs.Canonical.{IsData, lowered_part, lowered_fields, canonical_form};
 ghost use Rattle.domain_types.specs.declared.field.Field.{Field, TheVariants.LoweredName};
 ghost use Rattle.domain_types.specs.declared.field.Tail.{Tail};
 ghost use Rattle.domain_types.specs.Reading.{TokenText, DataTexts, DataTextFault};
@@ -55,11 +55,11 @@ pub fn fields_are_lowered_one_by_one()
 #[tactic(auto, using(crate::proofs::DataLemmas::canonical_data, crate::proofs::DataLemmas::canonical_again, crate::proofs::DataLemmas::canonical_length))]
 pub fn canonical_forms_are_data()
     ensures is_data { (t : ℕ) (octets : Octets) → IsData t octets
-        → IsData t (canonical_octets t octets) }
+        → IsData t (canonical_form t octets) }
     ensures again { (t : ℕ) (octets : Octets) → IsData t octets
-        → canonical_octets t (canonical_octets t octets) ≡ canonical_octets t octets }
+        → canonical_form t (canonical_form t octets) ≡ canonical_form t octets }
     ensures size { (t : ℕ) (octets : Octets) → IsData t octets
-        → length (canonical_octets t octets) ≡ length octets }
+        → length (canonical_form t octets) ≡ length octets }
 {}
 
 /// What tokens spell as data of a type is data of the type, for every origin that is a name.

@@ -2,7 +2,7 @@
 ghost use Rattle.std.specs.Prelude.{◌≡◌, ◌↔◌, ℕ, ◌+◌, ◌<◌, ◌≤◌, length, take, drop, slice_index, IfSome, IfNone, IsTrue};
 ghost use Rattle.std.specs.{Char.is_ascii_alphanumeric, List.AllByRecursion};
 ghost use Rattle.domain_names.specs.Wire.{IsWire};
-ghost use Rattle.domain_types.specs.Fields.{IsGateway, IsWord, IsField, BeginsWithNo};
+ghost use Rattle.domain_types.specs.Fields.{IsGateway, IsTag, IsField, BeginsWithNo};
 
 use crate::field::{Field, Shape};
 use domain_base::ParsedName;
@@ -55,8 +55,8 @@ pub(crate) fn are_letters(octets: &[u8]) -> bool
 
 /// Returns the length of the letters and digits, after their length octet, that octets begin with.
 fn word_len(octets: &[u8]) -> Option<usize>
-    ensures some { IfSome result (λ n. (n ≤ length octets.now) × IsWord (take n octets.now)) }
-    ensures none { IfNone result (BeginsWithNo IsWord octets.now) }
+    ensures some { IfSome result (λ n. (n ≤ length octets.now) × IsTag (take n octets.now)) }
+    ensures none { IfNone result (BeginsWithNo IsTag octets.now) }
 {
     let len = within(1 + octet_at(octets, 0), octets)?;
     if len > 1 && are_letters(&octets[1..len]) {

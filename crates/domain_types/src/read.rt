@@ -1,12 +1,12 @@
 //! Reading data of a type from tokens.
 ghost use Rattle.std.specs.Prelude.{◌≡◌, ◌+◌, ◌++◌, ◌<◌, ◌≤◌, ℕ, [], length, map, drop, true, false, IfOk, IfErr, OnErr, OnOk, IsTrue, ◌↔◌, codes};
 ghost use Rattle.domain_octets.specs.Octets.{Octets};
-ghost use Rattle.domain_types.specs.Spelling.{FieldText};
-ghost use Rattle.domain_types.specs.Reading.{token_text, may_be_quoted, is_misquoted, Spells};
+ghost use Rattle.domain_types.specs.Spelling.{FieldSpelling};
+ghost use Rattle.domain_types.specs.Reading.{token_text, may_be_quoted, is_misquoted, SpellsField};
 ghost use Rattle.domain_types.specs.Reading.{TokenFault, ManyTexts, ManyFault, Grows};
-ghost use Rattle.domain_types.specs.Reading.{LayoutFault, AreRead, AreUnquoted, texts};
+ghost use Rattle.domain_types.specs.Reading.{LayoutFault, AreRead, AreUnquoted, token_texts};
 ghost use Rattle.domain_types.specs.Reading.{TailTexts, TailFault, LayoutTexts, IsMarked, GenericTexts};
-ghost use Rattle.domain_types.specs.Reading.{GenericFault, DataTexts, DataTextFault};
+ghost use Rattle.domain_types.specs.Reading.{GenericTextsFault, DataTexts, DataTextFault};
 ghost use Rattle.domain_types.specs.Canonical.{IsData};
 ghost use Rattle.domain_types.specs.Reading.{BaseTexts, BaseFault, QuotedTexts, QuotedFault, tail_kind};
 ghost use Rattle.domain_codecs.specs.declared.codec.Codec.{Codec};
@@ -45,8 +45,8 @@ fn put_field(
     origin: &ParsedName<'_>,
     out: &mut Vec<u8>,
 ) -> Result<(), DataFaultKind>
-    ensures ok { OnOk result ((part : Octets) × Spells origin.now field (token_text token.now) part
-        × (out.new.items ≡ out.old.items ++ part)) }
+    ensures ok { OnOk result ((part : Octets) × SpellsField origin.now field
+        (token_text token.now) part × (out.new.items ≡ out.old.items ++ part)) }
     ensures err { IfErr result (TokenFault origin.now field (token_text token.now)) }
     ensures same { OnErr result (out.new.items ≡ out.old.items) }
 {
@@ -120,7 +120,7 @@ fn join_tokens(alloc: Global, tokens: &[Token<'_>]) -> Result<Option<Vec<u8>>, A
     ensures { IfOk result (λ found. MatchOption found
         (AreUnquoted (map token_text tokens.now) → ⊥)
         (λ text. AreUnquoted (map token_text tokens.now)
-        × (text.items ≡ concat (texts (map token_text tokens.now))))) }
+        × (text.items ≡ concat (token_texts (map token_text tokens.now))))) }
 {
     let mut text = Vec::new(alloc);
     for token in tokens {
@@ -210,7 +210,8 @@ fn fault_of(fault: SpellFault, tail: Tail) -> DataFault
 fn base_text(alloc: Global, tail: Tail, tokens: &[Token<'_>]) -> Result<Vec<u8>, DataFault>
     ensures some { IfOk result (λ _. 0 < length tokens.now) }
     ensures unquoted { IfOk result (λ _. AreUnquoted (map token_text tokens.now)) }
-    ensures text { IfOk result (λ text. text.items ≡ concat (texts (map token_text tokens.now))) }
+    ensures text { IfOk result (λ text. text.items ≡ concat
+        (token_texts (map token_text tokens.now))) }
     ensures err { IfErr result (λ e. (codec : Codec)
         → BaseFault codec tail (map token_text tokens.now) e.token e.kind) }
     ensures place { IfErr result (λ e. e.token ≡ 0) }
@@ -413,7 +414,7 @@ fn put_generic(
     ensures ok { OnOk result ((part : Octets) × GenericTexts (map token_text tokens.now) part
         × IsData rtype part × (out.new.items ≡ out.old.items ++ part)) }
     ensures err { IfErr result (λ e.
-        GenericFault rtype (map token_text tokens.now) e.token e.kind) }
+        GenericTextsFault rtype (map token_text tokens.now) e.token e.kind) }
     ensures same { OnErr result (out.new.items ≡ out.old.items) }
 {
     let octets = match generic_octets(alloc, tokens) {

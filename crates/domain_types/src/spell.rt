@@ -6,7 +6,7 @@ ghost use Rattle.domain_base.specs.Scan.{IsNumber};
 ghost use Rattle.domain_names.specs.{Name.{wire_of, IsName}, Text.{NameText, NameTextFault, scan_fault_of}, Wire.{IsWire, labels_of}};
 ghost use Rattle.domain_types.specs.Spelling.{going_on, ends_in_dot, NameField, string_octet, StringText};
 ghost use Rattle.domain_types.specs.Spelling.{ByteText, ShortText, LongText, TypeField, TagText};
-ghost use Rattle.domain_types.specs.Spelling.{LongAddressText, StringField, PlainText, FieldText};
+ghost use Rattle.domain_types.specs.Spelling.{LongAddressText, StringField, PlainText, FieldSpelling};
 ghost use Rattle.domain_types.specs.Spelling.{SpellsNothing};
 ghost use Rattle.std.specs.Net.Grammar.{IsDotted};
 
@@ -335,8 +335,8 @@ pub(crate) fn spell(
     text: &[u8],
     origin: &ParsedName<'_>,
 ) -> Result<Part, SpellFault>
-    ensures ok { IfOk result (FieldText origin.now field text.now) }
-    ensures err { IfErr result (SpellsNothing (FieldText origin.now field text.now)) }
+    ensures ok { IfOk result (FieldSpelling origin.now field text.now) }
+    ensures err { IfErr result (SpellsNothing (FieldSpelling origin.now field text.now)) }
 {
     match field {
         Field::LoweredName | Field::Name => spell_name(alloc, text, origin),

@@ -6,11 +6,11 @@ use Rattle.std.specs.Prelude.{if◌then◌else◌, max, nat_le}
 use Rattle.domain_octets.specs.Octets.{Octets}
 use Rattle.domain_zonefile.proofs.LexemeLemmas.{split_at, lexeme_bounds, lexeme_within, rest_is}
 use Rattle.domain_zonefile.specs.Lexemes.{lexeme_at, lexeme_len, HasBounds}
-use Rattle.domain_zonefile.specs.Entries.{Placed, placed, lexemes_from, lexemes, Piece, tokens_of, open_after, ends_entry, fault_of}
+use Rattle.domain_zonefile.specs.Entries.{Placed, placed, lexemes_from, lexemes, Piece, lexeme_tokens, open_after, ends_entry, lexeme_fault}
 use Rattle.domain_zonefile.specs.Entries.{tokens_in, or_else, unclosed_bracket, fault_in, EntryEnd, BeforeLine, EndOfFile, end_in, resume, tokens_at}
 use Rattle.domain_zonefile.specs.Entries.{fault_at, next_at, line_after, item_of, items_in, items_from, entry_of, begins_blank, Entry as EntryItem}
 use Rattle.domain_zonefile.specs.Entries.{Faulty as FaultyItem}
-use Rattle.domain_zonefile.specs.{Tokens.{innermost, is_empty}, Reading.{IsReading, IsEnd}}
+use Rattle.domain_zonefile.specs.{Tokens.{innermost, has_no_token}, Reading.{IsReading, IsFileEnd}}
 use Rattle.domain_zonefile.specs.declared.{error.SyntaxFault.SyntaxFault, lexeme.Lexeme.{Lexeme, TheVariants.{Gap, LineEnd, Open, Close}}}
 use Rattle.domain_zonefile.specs.declared.lexeme.Lexeme.TheVariants.{Word, Quoted, Bad}
 use Rattle.domain_zonefile.specs.declared.entry.Reading.{Reading, TheVariants.{Entry, Faulty}}
@@ -71,26 +71,27 @@ ends_here file at brackets h ends = rw (lexemes_more file at h, ends) (refl, ref
 
 goes_on : (file : Octets) (at : ℕ) (brackets : List ℕ) → at < length file → ends_entry (lexeme_at (drop at file)) brackets ≡ false
     → (tokens_in brackets (lexemes file at)
-    ≡ tokens_of at (lexeme_at (drop at file)) (drop at file)
+    ≡ lexeme_tokens at (lexeme_at (drop at file)) (drop at file)
     ++ tokens_in (open_after at (lexeme_at (drop at file)) brackets) (lexemes file (at + lexeme_len (lexeme_at (drop at file)))))
     × (fault_in brackets (lexemes file at)
-    ≡ or_else (fault_of at (lexeme_at (drop at file)) brackets) (fault_in (open_after at (lexeme_at (drop at file)) brackets) (lexemes file
+    ≡ or_else (lexeme_fault at (lexeme_at (drop at file)) brackets) (fault_in (open_after at (lexeme_at (drop at file)) brackets) (lexemes file
     (at + lexeme_len (lexeme_at (drop at file))))))
     × (end_in brackets (lexemes file at)
     ≡ end_in (open_after at (lexeme_at (drop at file)) brackets) (lexemes file (at + lexeme_len (lexeme_at (drop at file)))))
 goes_on file at brackets h ends = rw (lexemes_more file at h, ends) (refl, refl, refl)
 
 pub entering_more : (file : Octets) (start at : ℕ) (tokens : List Piece) (brackets : List ℕ) → Entering file start at tokens brackets → at < length file
-    → ends_entry (lexeme_at (drop at file)) brackets ≡ false → fault_of at (lexeme_at (drop at file)) brackets ≡ None
+    → ends_entry (lexeme_at (drop at file)) brackets ≡ false → lexeme_fault at (lexeme_at (drop at file)) brackets ≡ None
     → Entering file start (at + lexeme_len (lexeme_at (drop at file))) (tokens
-    ++ tokens_of at (lexeme_at (drop at file)) (drop at file)) (open_after at (lexeme_at (drop at file)) brackets)
+    ++ lexeme_tokens at (lexeme_at (drop at file)) (drop at file)) (open_after at (lexeme_at (drop at file)) brackets)
 entering_more file start at tokens brackets e h ends fine =
     let on = goes_on file at brackets h ends in
     let x = lexeme_at (drop at file) in
     let rest = lexemes file (at + lexeme_len x) in
     record {
       within = omega (arith, (lexeme_here file at h).high);
-      so_far = append_assoc tokens (tokens_of at x (drop at file)) (tokens_in (open_after at x brackets) rest) ∙ ap (λ ts. tokens ++ ts) (sym on.0) ∙ e.so_far;
+      so_far = append_assoc tokens (lexeme_tokens at x (drop at file)) (tokens_in (open_after at x brackets) rest) ∙ ap (λ ts. tokens ++ ts) (sym on.0)
+          ∙ e.so_far;
       fault = ap (λ f. or_else f (fault_in (open_after at x brackets) rest)) (sym fine) ∙ sym on.1 ∙ e.fault;
       end = sym on.2 ∙ e.end;
     }
@@ -107,7 +108,7 @@ entering_line file start at tokens brackets e h ends =
 
 pub entering_fault : (file : Octets) (start at : ℕ) (tokens : List Piece) (brackets : List ℕ) (fault : SyntaxFault) (next : ℕ) (after : List Piece)
     → Entering file start at tokens brackets → at < length file
-    → ends_entry (lexeme_at (drop at file)) brackets ≡ false → fault_of at (lexeme_at (drop at file)) brackets ≡ Some fault
+    → ends_entry (lexeme_at (drop at file)) brackets ≡ false → lexeme_fault at (lexeme_at (drop at file)) brackets ≡ Some fault
     → next ≡ resume file (Some fault) (end_in brackets (lexemes file at)) → IsReading file start (Faulty fault next) after
 entering_fault file start at tokens brackets fault next after e h ends bad is =
     let on = goes_on file at brackets h ends in
@@ -117,7 +118,7 @@ entering_fault file start at tokens brackets fault next after e h ends bad is =
     (some, is ∙ ap (resume file (Some fault)) e.end ∙ ap (λ f. resume file f (end_in [] (lexemes file start))) (sym some))
 
 pub entering_end : (file : Octets) (start at : ℕ) (tokens : List Piece) (brackets : List ℕ) (reading : Reading)
-    → Entering file start at tokens brackets → length file ≤ at → IsEnd file brackets reading → IsReading file start reading tokens
+    → Entering file start at tokens brackets → length file ≤ at → IsFileEnd file brackets reading → IsReading file start reading tokens
 entering_end file start at tokens brackets (Entry next) e h is =
     let none = lexemes_end file at h in
     let fault : fault_at file start ≡ None = sym e.fault ∙ ap (fault_in brackets) none ∙ is.0 in (
@@ -184,19 +185,20 @@ enter_line file start at tokens brackets x e h is ends = entering_line file star
 
 pub enter_fault : (file : Octets) (start at : ℕ) (tokens : List Piece) (brackets : List ℕ) (x : Lexeme) (fault : SyntaxFault) (next : ℕ) (after : List Piece)
     → Entering file start at tokens brackets → at < length file → x ≡ lexeme_at (take (length file - at) (drop at file)) → false ≡ ends_entry x brackets
-    → Some fault ≡ fault_of at x brackets → next ≡ resume file (Some fault) (end_in brackets (lexemes file at)) → IsReading file start (Faulty fault next) after
+    → Some fault ≡ lexeme_fault at x brackets → next ≡ resume file (Some fault) (end_in brackets (lexemes file at))
+    → IsReading file start (Faulty fault next) after
 enter_fault file start at tokens brackets x fault next after e h is ends bad next_is =
     entering_fault file start at tokens brackets fault next after e h (ends_at file at brackets x false is ends)
-    (ap (λ y. fault_of at y brackets) (sym (read_here file at x is)) ∙ sym bad) next_is
+    (ap (λ y. lexeme_fault at y brackets) (sym (read_here file at x is)) ∙ sym bad) next_is
 
 pub enter_more : (file : Octets) (start at : ℕ) (tokens more : List Piece) (brackets after : List ℕ) (x : Lexeme) (len : ℕ)
     → Entering file start at tokens brackets → at < length file → x ≡ lexeme_at (take (length file - at) (drop at file)) → false ≡ ends_entry x brackets
-    → None ≡ fault_of at x brackets → more ≡ tokens ++ tokens_of at x (take (length file - at) (drop at file)) → after ≡ open_after at x brackets
+    → None ≡ lexeme_fault at x brackets → more ≡ tokens ++ lexeme_tokens at x (take (length file - at) (drop at file)) → after ≡ open_after at x brackets
     → len ≡ lexeme_len x
     → Entering file start (at + len) more after
 enter_more file start at tokens more brackets after x len e h is ends fine more_is next len_is =
     let here = read_here file at x is in
-    let on = entering_more file start at tokens brackets e h (ends_at file at brackets x false is ends) (ap (λ y. fault_of at y brackets)
+    let on = entering_more file start at tokens brackets e h (ends_at file at brackets x false is ends) (ap (λ y. lexeme_fault at y brackets)
     (sym here) ∙ sym fine) in
     rw (len_is, next, more_is, rest_is, here) on
 
@@ -273,7 +275,7 @@ fault_or : (start : ℕ) (x y : Option SyntaxFault) → IsFaultFrom start x → 
 fault_or start None y p q = q
 fault_or start (Some fault) y p q = p
 
-fault_from : (start at : ℕ) (x : Lexeme) (brackets : List ℕ) → start ≤ at → IsFaultFrom start (fault_of at x brackets)
+fault_from : (start at : ℕ) (x : Lexeme) (brackets : List ℕ) → start ≤ at → IsFaultFrom start (lexeme_fault at x brackets)
 fault_from start at (Gap len) brackets h = tt
 fault_from start at LineEnd brackets h = tt
 fault_from start at Open brackets h = tt
@@ -292,7 +294,7 @@ fault_past : (start stop : ℕ) (brackets : List ℕ) (xs : List Placed) → Are
 fault_past start stop brackets [] between from = unclosed_from start brackets from
 fault_past start stop brackets (x ∷ xs) between from =
     fault_either start (ends_entry x.lexeme brackets) None _ tt
-    (fault_or start (fault_of x.at x.lexeme brackets) _ (fault_from start x.at x.lexeme brackets between.0)
+    (fault_or start (lexeme_fault x.at x.lexeme brackets) _ (fault_from start x.at x.lexeme brackets between.0)
     (fault_past start stop (open_after x.at x.lexeme brackets) xs between.2 (brackets_from start x.at x.lexeme brackets between.0 from)))
 
 line_past : (file : Octets) (start at : ℕ) → start < length file → start ≤ at → (start < line_after file at) × (line_after file at ≤ length file)
@@ -370,13 +372,13 @@ found file start next tokens h is =
     ∙ ap (λ n. entry_of (begins_blank (drop start file)) tokens ++ items_from file n) (sym is.2)
 
 pub found_blank : (file : Octets) (start next : ℕ) (tokens : List Piece) → start < length file → IsReading file start (Entry next) tokens
-    → true ≡ is_empty tokens
+    → true ≡ has_no_token tokens
     → items_from file start ≡ items_from file next
 found_blank file start next [] h is empty = found file start next [] h is
 found_blank file start next (t ∷ tokens) h is empty = cc
 
 pub found_entry : (file : Octets) (start next : ℕ) (tokens : List Piece) (indented : Bool) → start < length file → IsReading file start (Entry next) tokens
-    → false ≡ is_empty tokens → indented ≡ begins_blank (take (length file - start) (drop start file))
+    → false ≡ has_no_token tokens → indented ≡ begins_blank (take (length file - start) (drop start file))
     → items_from file start ≡ EntryItem indented tokens ∷ items_from file next
 found_entry file start next [] indented h is empty blank = cc
 found_entry file start next (t ∷ tokens) indented h is empty blank =

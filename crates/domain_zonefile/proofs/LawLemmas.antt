@@ -4,7 +4,7 @@ use Rattle.std.proofs.{lemmas.List.drop-drop}
 use Rattle.std.specs.{List.AllByRecursion, Prelude.{if◌then◌else◌}}
 use Rattle.domain_octets.specs.Octets.{Octets}
 use Rattle.domain_zonefile.specs.Lexemes.{lexeme_at, lexeme_len}
-use Rattle.domain_zonefile.specs.Entries.{Placed, lexemes_from, lexemes, Piece, tokens_of, open_after, ends_entry, tokens_in, tokens_at, IsOfFile}
+use Rattle.domain_zonefile.specs.Entries.{Placed, lexemes_from, lexemes, Piece, lexeme_tokens, open_after, ends_entry, tokens_in, tokens_at, IsOfFile}
 use Rattle.domain_zonefile.specs.declared.lexeme.Lexeme.{Lexeme, TheVariants.{Gap, LineEnd, Open, Close, Word, Quoted, Bad}}
 
 -- each lexeme has the octets of the file from its place on
@@ -27,7 +27,7 @@ front_of zero text = refl
 front_of (suc n) [] = refl
 front_of (suc n) (c ∷ text) = ap (λ (xs : Octets). c ∷ xs) (front_of n text)
 
-token_of_file : (file : Octets) (at : ℕ) (x : Lexeme) (text : Octets) → text ≡ drop at file → AllByRecursion (IsOfFile file) (tokens_of at x text)
+token_of_file : (file : Octets) (at : ℕ) (x : Lexeme) (text : Octets) → text ≡ drop at file → AllByRecursion (IsOfFile file) (lexeme_tokens at x text)
 token_of_file file at (Gap len) text h = tt
 token_of_file file at LineEnd text h = tt
 token_of_file file at Open text h = tt
@@ -49,7 +49,7 @@ tokens_in_file : (file : Octets) (brackets : List ℕ) (xs : List Placed) → Ar
 tokens_in_file file brackets [] are = tt
 tokens_in_file file brackets (x ∷ xs) are =
     all_either (IsOfFile file) (ends_entry x.lexeme brackets) _
-    (all_join (IsOfFile file) (tokens_of x.at x.lexeme x.text) _ (token_of_file file x.at x.lexeme x.text are.0)
+    (all_join (IsOfFile file) (lexeme_tokens x.at x.lexeme x.text) _ (token_of_file file x.at x.lexeme x.text are.0)
     (tokens_in_file file (open_after x.at x.lexeme brackets) xs are.1))
 
 pub tokens_of_file : (file : Octets) (start : ℕ) → AllByRecursion (IsOfFile file) (tokens_at file start)

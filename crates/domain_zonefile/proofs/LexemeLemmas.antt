@@ -5,7 +5,8 @@ use Rattle.std.proofs.{Math.Seq.drop-cons, lemmas.Grind.common_steps, lemmas.Lis
 use Rattle.std.proofs.lemmas.List.Sums.{prefix_len-drop_yes, prefix_len-drop_no, prefix_len-drop_all, prefix_len-le-length}
 use Rattle.std.specs.{List.prefix_len, Prelude.{◌&&◌, ◌==◌, if◌then◌else◌}}
 use Rattle.domain_octets.specs.Octets.{Octets}
-use Rattle.domain_zonefile.specs.Lexemes.{is_blank, is_comment, is_return, is_separator, is_escape, quoted_from, word_from, valued, quoted_fault}
+use Rattle.domain_octets.specs.Text.{is_blank}
+use Rattle.domain_zonefile.specs.Lexemes.{is_comment, is_return, is_separator, is_escape, quoted_from, word_from, valued, quoted_fault}
 use Rattle.domain_zonefile.specs.Lexemes.{quoted_step, first_fault, with_fault}
 use Rattle.domain_zonefile.specs.Lexemes.{equals_after, is_after, lexeme_at, lexeme_len, HasBounds, inner_len, begins_apart, begins_at_line_end, returns_at}
 use Rattle.domain_zonefile.specs.declared.lexeme.Lexeme.{Lexeme, TheVariants.{Gap, LineEnd, Open, Close, Word, Quoted, Bad}}

@@ -4,7 +4,7 @@ use Rattle.std.proofs.{lemmas.Grind.common_steps}
 use Rattle.std.specs.Prelude.{Result, Ok, Err, is_ok, is_err, ◌==◌, vec_len}
 use Rattle.std.specs.declared.{vec.Vec.Vec, alloc.Global.Global}
 use Rattle.domain_types.specs.declared.token.Token.{Token}
-use Rattle.domain_zonefile.specs.{Entries.Piece, Tokens.{pieces_of, token_view, piece_view, is_empty}}
+use Rattle.domain_zonefile.specs.{Entries.Piece, Tokens.{pieces_of, token_view, piece_view, has_no_token}}
 
 pub pieces_push : (tokens : List Token) (places : List ℕ) (token : Token) (place : ℕ) → length tokens ≡ length places
     → pieces_of (tokens ++ token ∷ []) (places ++ place ∷ [])
@@ -31,11 +31,11 @@ pub is_ok_there : {X E : Type 0} (result : Result X E) → false ≡ is_err resu
 is_ok_there (Ok x) h = refl
 is_ok_there (Err e) h = cc
 
-none_is_empty : (tokens : List Token) (places : List ℕ) → length tokens ≡ length places → (length tokens == 0) ≡ is_empty (pieces_of tokens places)
+none_is_empty : (tokens : List Token) (places : List ℕ) → length tokens ≡ length places → (length tokens == 0) ≡ has_no_token (pieces_of tokens places)
 none_is_empty [] places h = refl
 none_is_empty (t ∷ tokens) [] h = grind (arith, common_steps)
 none_is_empty (t ∷ tokens) (p ∷ places) h = grind (arith, common_steps)
 
 pub pieces_empty : (tokens : Vec Token Global) (places : List ℕ) → length tokens.items ≡ length places
-    → (vec_len tokens == 0) ≡ is_empty (pieces_of tokens.items places)
+    → (vec_len tokens == 0) ≡ has_no_token (pieces_of tokens.items places)
 pieces_empty tokens places h = let len : vec_len tokens ≡ length tokens.items = search rules in rw len (none_is_empty tokens.items places h)

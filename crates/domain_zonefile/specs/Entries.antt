@@ -4,7 +4,8 @@ use Rattle.std.specs.Prelude.{◌≡◌, ℕ, zero, suc, ◌+◌, ◌-◌, Bool,
 use Rattle.std.specs.Prelude.{if◌then◌else◌, nat_le, min, max}
 use Rattle.std.specs.List.{prefix_len}
 use Rattle.domain_octets.specs.Octets.{Octets}
-use Rattle.domain_zonefile.specs.Lexemes.{is_blank, is_comment, lexeme_at, lexeme_len}
+use Rattle.domain_octets.specs.Text.{is_blank}
+use Rattle.domain_zonefile.specs.Lexemes.{is_comment, lexeme_at, lexeme_len}
 use Rattle.domain_zonefile.specs.declared.lexeme.Lexeme.{Lexeme, TheVariants.{Gap, LineEnd, Open, Close, Word, Quoted, Bad}}
 use Rattle.domain_zonefile.specs.declared.error.{SyntaxFault.SyntaxFault, SyntaxError.TheVariants.{StrayBracket, UnclosedBracket}}
 
@@ -41,15 +42,15 @@ pub record Piece : Type 0 where
   pub is_quoted : Bool
 
 -- the token that a lexeme is, if it is one
-abbrev pub tokens_of : ℕ → Lexeme → Octets → List Piece
-tokens_of at (Gap len) text = []
-tokens_of at LineEnd text = []
-tokens_of at Open text = []
-tokens_of at Close text = []
-tokens_of at (Word len) text = record { at = at; octets = take len text; is_quoted = false } ∷ []
-tokens_of at (Quoted len) text =
+abbrev pub lexeme_tokens : ℕ → Lexeme → Octets → List Piece
+lexeme_tokens at (Gap len) text = []
+lexeme_tokens at LineEnd text = []
+lexeme_tokens at Open text = []
+lexeme_tokens at Close text = []
+lexeme_tokens at (Word len) text = record { at = at; octets = take len text; is_quoted = false } ∷ []
+lexeme_tokens at (Quoted len) text =
     record { at = at; octets = take (len - 2) (drop 1 text); is_quoted = true } ∷ []
-tokens_of at (Bad len error place) text = []
+lexeme_tokens at (Bad len error place) text = []
 
 -- the places of the open brackets after a lexeme, the innermost first
 abbrev pub open_after : ℕ → Lexeme → List ℕ → List ℕ
@@ -82,14 +83,14 @@ stray_bracket at [] = Some (record { error = StrayBracket; at = at })
 stray_bracket at (bracket ∷ brackets) = None
 
 -- the fault of a lexeme
-abbrev pub fault_of : ℕ → Lexeme → List ℕ → Option SyntaxFault
-fault_of at (Gap len) brackets = None
-fault_of at LineEnd brackets = None
-fault_of at Open brackets = None
-fault_of at Close brackets = stray_bracket at brackets
-fault_of at (Word len) brackets = None
-fault_of at (Quoted len) brackets = None
-fault_of at (Bad len error place) brackets = Some (record { error = error; at = at + place })
+abbrev pub lexeme_fault : ℕ → Lexeme → List ℕ → Option SyntaxFault
+lexeme_fault at (Gap len) brackets = None
+lexeme_fault at LineEnd brackets = None
+lexeme_fault at Open brackets = None
+lexeme_fault at Close brackets = stray_bracket at brackets
+lexeme_fault at (Word len) brackets = None
+lexeme_fault at (Quoted len) brackets = None
+lexeme_fault at (Bad len error place) brackets = Some (record { error = error; at = at + place })
 
 -- ---- entries
 
@@ -98,7 +99,7 @@ abbrev pub tokens_in : List ℕ → List Placed → List Piece
 tokens_in brackets [] = []
 tokens_in brackets (x ∷ xs) =
     if ends_entry x.lexeme brackets then []
-    else tokens_of x.at x.lexeme x.text ++ tokens_in (open_after x.at x.lexeme brackets) xs
+    else lexeme_tokens x.at x.lexeme x.text ++ tokens_in (open_after x.at x.lexeme brackets) xs
 
 -- the first of two faults
 abbrev pub or_else : Option SyntaxFault → Option SyntaxFault → Option SyntaxFault
@@ -115,7 +116,7 @@ abbrev pub fault_in : List ℕ → List Placed → Option SyntaxFault
 fault_in brackets [] = unclosed_bracket brackets
 fault_in brackets (x ∷ xs) =
     if ends_entry x.lexeme brackets then None
-    else or_else (fault_of x.at x.lexeme brackets) (fault_in (open_after x.at x.lexeme brackets) xs)
+    else or_else (lexeme_fault x.at x.lexeme brackets) (fault_in (open_after x.at x.lexeme brackets) xs)
 
 -- where an entry ends: before the line at this place, or at the end of the file, with these
 -- brackets open

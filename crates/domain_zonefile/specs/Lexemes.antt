@@ -2,7 +2,7 @@
 -- section 5.1).
 use Rattle.std.specs.Prelude.{ℕ, ◌+◌, ◌≤◌, ◌==◌, ◌||◌, ◌&&◌, Bool, true, false, not, [], ◌∷◌, drop, Option, Some, None, if◌then◌else◌, is_some}
 use Rattle.std.specs.{Char.is_ascii_digit, List.prefix_len}
-use Rattle.domain_octets.specs.{Octets.Octets, Text.{tab, line_feed, space, quote, left_parenthesis, right_parenthesis, semicolon, equals_sign, backslash}}
+use Rattle.domain_octets.specs.{Octets.Octets, Text.{is_blank, line_feed, quote, left_parenthesis, right_parenthesis, semicolon, equals_sign, backslash}}
 use Rattle.domain_names.specs.Text.{decimal_at}
 use Rattle.domain_zonefile.specs.declared.lexeme.Lexeme.{Lexeme, TheVariants.{Gap, LineEnd, Open, Close, Word, Quoted, Bad}}
 use Rattle.domain_zonefile.specs.declared.error.SyntaxError.{SyntaxError, TheVariants.{BadEscape, UnclosedQuote, MisplacedQuote, NoSeparator, StrayReturn, Nul}}
@@ -11,10 +11,6 @@ use Rattle.domain_zonefile.specs.declared.error.SyntaxError.{SyntaxError, TheVar
 
 abbrev pub carriage_return : ℕ
 carriage_return = 13
-
--- a space or a tab
-abbrev pub is_blank : ℕ → Bool
-is_blank c = c == space || c == tab
 
 abbrev pub is_line_feed : ℕ → Bool
 is_line_feed c = c == line_feed

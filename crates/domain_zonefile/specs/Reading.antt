@@ -12,9 +12,9 @@ IsReading file at (Faulty fault next) tokens =
     (fault_at file at ≡ Some fault) × (next ≡ next_at file at)
 
 -- this is read at the end of a file with these brackets open
-abbrev pub IsEnd : Octets → List ℕ → Reading → Type 0
-IsEnd file brackets (Entry next) =
+abbrev pub IsFileEnd : Octets → List ℕ → Reading → Type 0
+IsFileEnd file brackets (Entry next) =
     (unclosed_bracket brackets ≡ None) × (next ≡ resume file None (EndOfFile brackets))
-IsEnd file brackets (Faulty fault next) =
+IsFileEnd file brackets (Faulty fault next) =
     (unclosed_bracket brackets ≡ Some fault)
     × (next ≡ resume file (unclosed_bracket brackets) (EndOfFile brackets))

@@ -27,6 +27,6 @@ innermost [] = None
 innermost (bracket ∷ brackets) = Some bracket
 
 -- there is no token
-abbrev pub is_empty : List Piece → Bool
-is_empty [] = true
-is_empty (token ∷ tokens) = false
+abbrev pub has_no_token : List Piece → Bool
+has_no_token [] = true
+has_no_token (token ∷ tokens) = false

@@ -1,9 +1,9 @@
 //! One entry of a zone file (RFC 1035, section 5.1).
 ghost use Rattle.std.specs.Prelude.{◌≡◌, ◌≤◌, ◌<◌, ◌+◌, ◌^◌, ◌++◌, [], None, Some, ℕ, OnOk, IfOk, drop, length, max};
 ghost use Rattle.domain_zonefile.specs.Lexemes.{lexeme_at, lexeme_len, inner_len, HasBounds};
-ghost use Rattle.domain_zonefile.specs.Entries.{tokens_of, open_after, ends_entry, fault_of, line_after, resume};
+ghost use Rattle.domain_zonefile.specs.Entries.{lexeme_tokens, open_after, ends_entry, lexeme_fault, line_after, resume};
 ghost use Rattle.domain_zonefile.specs.Entries.{end_in, lexemes, EndOfFile, next_at, fault_at, begins_blank};
-ghost use Rattle.domain_zonefile.specs.Reading.{IsReading, IsEnd};
+ghost use Rattle.domain_zonefile.specs.Reading.{IsReading, IsFileEnd};
 
 use crate::lexeme::{Lexeme, comment_len, len_of, lexeme_at};
 use crate::token::{Brackets, Tokens};
@@ -37,10 +37,10 @@ fn ends_entry(lexeme: Lexeme, brackets: &Brackets) -> bool
 }
 
 /// Returns the fault of a lexeme, if it has one.
-fn fault_of(at: usize, lexeme: Lexeme, brackets: &Brackets) -> Option<SyntaxFault>
+fn lexeme_fault(at: usize, lexeme: Lexeme, brackets: &Brackets) -> Option<SyntaxFault>
     requires fits { at + lexeme_len lexeme < 2 ^ 64 }
     requires inner { inner_len lexeme ≤ lexeme_len lexeme }
-    ensures { result ≡ fault_of at lexeme brackets.now }
+    ensures { result ≡ lexeme_fault at lexeme brackets.now }
 {
     match lexeme {
         Lexeme::Close if brackets.is_outside() => Some(SyntaxFault {
@@ -75,7 +75,7 @@ fn push_token<'a>(
     text: &'a [u8],
 ) -> Result<(), OutOfMemory>
     requires { HasBounds 1 (length text.now) lexeme }
-    ensures { OnOk result (tokens.new ≡ tokens.old ++ tokens_of at lexeme text.now) }
+    ensures { OnOk result (tokens.new ≡ tokens.old ++ lexeme_tokens at lexeme text.now) }
 {
     match lexeme {
         Lexeme::Word(len) => tokens.push(&text[..len], false, at),
@@ -123,7 +123,7 @@ fn resume(
 
 /// Returns what is read at the end of a file: a fault if a bracket is open.
 fn at_end(file: &[u8], brackets: &Brackets) -> Reading
-    ensures { IsEnd file.now brackets.now result }
+    ensures { IsFileEnd file.now brackets.now result }
 {
     match brackets.innermost() {
         Some(at) => {
@@ -154,7 +154,7 @@ pub fn read_entry<'a>(
             return Ok(Reading::Entry(at + 1));
         }
         push_token(tokens, at, lexeme, text)?;
-        if let Some(fault) = fault_of(at, lexeme, brackets) {
+        if let Some(fault) = lexeme_fault(at, lexeme, brackets) {
             let next = resume(file, fault, at, brackets)?;
             return Ok(Reading::Faulty(fault, next));
         }

@@ -1,7 +1,8 @@
 //! The lexemes of a zone file, one at a time (RFC 1035, section 5.1).
 ghost use Rattle.std.specs.Prelude.{◌≡◌, ◌≤◌, ◌<◌, ◌+◌, ◌↔◌, ◌≢◌, false, None, IsTrue, [], length, drop};
 ghost use Rattle.std.specs.List.{prefix_len};
-ghost use Rattle.domain_zonefile.specs.Lexemes.{is_blank, is_comment, is_return, is_separator, is_escape};
+ghost use Rattle.domain_octets.specs.Text.{is_blank};
+ghost use Rattle.domain_zonefile.specs.Lexemes.{is_comment, is_return, is_separator, is_escape};
 ghost use Rattle.domain_zonefile.specs.Lexemes.{begins_apart, begins_at_line_end, quoted_from, valued};
 ghost use Rattle.domain_zonefile.specs.Lexemes.{HasBounds, quoted_fault, quoted_step, first_fault, equals_after, returns_at};
 ghost use Rattle.domain_zonefile.specs.Lexemes.{word_from, is_after, lexeme_at, lexeme_len, with_fault};

@@ -1,6 +1,6 @@
 //! The tokens of an entry, and the brackets around them.
 ghost use Rattle.std.specs.Prelude.{◌≡◌, ◌∷◌, ◌++◌, [], Option, drop, map, length, OnOk, OnErr, reverse};
-ghost use Rattle.domain_zonefile.specs.Tokens.{innermost, token_view, piece_view, is_empty};
+ghost use Rattle.domain_zonefile.specs.Tokens.{innermost, token_view, piece_view, has_no_token};
 ghost use Rattle.domain_zonefile.specs.Entries.{is_outside};
 
 use domain_octets::OutOfMemory;
@@ -65,7 +65,7 @@ impl<'a> Tokens<'a> {
 
     /// Returns whether there are none.
     pub fn is_empty(&self) -> bool
-        ensures { result ≡ is_empty self.now }
+        ensures { result ≡ has_no_token self.now }
     {
         self.tokens.is_empty()
     }

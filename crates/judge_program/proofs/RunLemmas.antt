@@ -8,7 +8,7 @@ use Rattle.std.proofs.Common.{None, Ok, Some, false, true, ◌≤◌}
 use Rattle.domain_answer.specs.declared.answer.{Answer.Answer, NameAnswer.TheVariants.{Absent}}
 use Rattle.domain_answer.specs.declared.answer.Answer.TheVariants as answers
 use Rattle.domain_answer.specs.{Judged.{IsHashedJudged, IsJudged}, Needs.wildcard_count}
-use Rattle.domain_answer.specs.Reading.{name_answer, needs_no_records, usable, IsFound, IsWildcardWitness}
+use Rattle.domain_answer.specs.Reading.{name_answer, needs_no_records, usable, IsNameFound, IsWildcardWitness}
 use Rattle.domain_checker.specs.HashedVerdict.{HashedRecords}
 use Rattle.domain_names.specs.Name.{is_at_or_below, last_labels}
 use Rattle.domain_nsec.specs.Chain.{Link}
@@ -77,7 +77,7 @@ tells_no_text hashes (Nsec3 asked) given q e why = grind (arith, common_steps)
 
 -- ---- What was found is what the records say.
 
-pub found_told : (a : Name) (listed : List Link) (role : Role) (x : Name) (m c : Option Link) → IsFound a listed x m c
+pub found_told : (a : Name) (listed : List Link) (role : Role) (x : Name) (m c : Option Link) → IsNameFound a listed x m c
     → finding plain role m c ≡ nsec_told a listed role x
 found_told a listed role x None c found = grind (arith, common_steps)
 found_told a listed role x (Some k) c found = grind (arith, common_steps)

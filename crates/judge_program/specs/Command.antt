@@ -40,7 +40,7 @@ KindText word options (Nsec3 asked) shown =
     (word ≡ codes "nsec3") × LabelsText options asked.labels asked.limit shown
 
 -- the arguments spell the command for what records of this kind of chain answer to the question
-pub record Asks (words : Tokens) (command : Command) : Type 0 where
+pub record AsksToJudge (words : Tokens) (command : Command) : Type 0 where
   pub kind_word : Token
   pub apex_word : Token
   pub name_word : Token
@@ -50,8 +50,8 @@ pub record Asks (words : Tokens) (command : Command) : Type 0 where
   pub kind : KindText kind_word options command.kind command.shown
   pub question : SpellQuestion apex_word name_word type_word command.question
 
-abbrev pub IsCommand : Tokens → Type 0
-IsCommand words = (command : Command) × Asks words command
+abbrev pub IsJudgeCommand : Tokens → Type 0
+IsJudgeCommand words = (command : Command) × AsksToJudge words command
 
-abbrev pub IsNoCommand : Tokens → Type 0
-IsNoCommand words = (command : Command) → Asks words command → ⊥
+abbrev pub IsNoJudgeCommand : Tokens → Type 0
+IsNoJudgeCommand words = (command : Command) → AsksToJudge words command → ⊥

@@ -12,14 +12,14 @@ use Rattle.domain_groups.specs.declared.error.SigningError.{SigningError, TheVar
 use Rattle.domain_nsec.specs.Chain.{Link}
 use Rattle.domain_borrowed.specs.Data.{RawRecord}
 use Rattle.domain_answer.specs.{HashedReading.IsFirstOfRefusals, Judged.{IsExpansionJudged, IsHashedJudged, IsJudged}, declared.answer.Answer.Answer}
-use Rattle.denial_program.specs.{Check.{AreNsecs, AreNsec3s, AreParams, HasNoParam, IsRefusedBy}, declared.command.Question.Question}
+use Rattle.denial_program.specs.{Check.{AreNsecs, AreNsec3s, AreParams, HasNoParam, IsRefusedForRecords}, declared.command.Question.Question}
 use Rattle.denial_program.specs.declared.fault.DenialFault.{DenialFault, TheVariants.{Signing, Param, OutOfMemory}}
 
 -- ---- The question to NSEC3 records.
 
 -- the records as they are read, with the hasher's answers
-abbrev pub records_of : {H : Type 0} → (H → HasherAnswer) → Inquiry H → HashedRecords
-records_of answer asked =
+abbrev pub asked_records : {H : Type 0} → (H → HasherAnswer) → Inquiry H → HashedRecords
+asked_records answer asked =
     indexed_by (answer asked.hasher.now) asked.index.now
 
 -- ---- What the records of a chain that were read answer to a question.
@@ -68,10 +68,10 @@ IsRefusalAsked (Some n) R q limit reason = IsExpansionJudged R q.name n limit (E
 abbrev pub IsJudgeRefused : HasherAnswer → List RawRecord → Question → Nsec3Options → SigningError
     → Type 0
 IsJudgeRefused hashes given q asked =
-    IsRefusedBy (λ R. IsRefusalAsked asked.labels R q asked.limit) hashes given q.apex
+    IsRefusedForRecords (λ R. IsRefusalAsked asked.labels R q asked.limit) hashes given q.apex
 
 -- the answer of these records, and what is to be printed below it
-pub record IsTold (labels : Option ℕ) (limit : ℕ) (shown : Shown) (q : Question)
+pub record IsNsec3Telling (labels : Option ℕ) (limit : ℕ) (shown : Shown) (q : Question)
     (param : ParamRecord) (R : HashedRecords) (told : Told) : Type 0 where
   pub judged : IsAsked labels R q limit (Ok told.answer)
   pub parts : AreNsec3Told (shows_records told.answer) shown labels limit param R q.name told.answer

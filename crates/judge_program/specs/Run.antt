@@ -6,9 +6,9 @@ use Rattle.domain_nsec3.specs.View.{HasherAnswer}
 use Rattle.domain_borrowed.specs.Data.{RawRecord}
 use Rattle.domain_answer.specs.declared.answer.Answer.{Answer}
 use Rattle.domain_checker.specs.HashedVerdict.{links_with}
-use Rattle.denial_program.specs.{Run.IsOver, declared.{command.Question.Question, fault.DenialFault.{DenialFault, TheVariants.{Usage, Unprepared}}}}
+use Rattle.denial_program.specs.{Run.HoldsOfInput, declared.{command.Question.Question, fault.DenialFault.{DenialFault, TheVariants.{Usage, Unprepared}}}}
 use Rattle.denial_program.specs.declared.fault.DenialFault.TheVariants.{OutOfMemory}
-use Rattle.judge_program.specs.{Command.{Asks, IsCommand, IsNoCommand}, Told.shows_records}
+use Rattle.judge_program.specs.{Command.{AsksToJudge, IsJudgeCommand, IsNoJudgeCommand}, Told.shows_records}
 use Rattle.judge_program.specs.Judged.{has_known_flags, IsNotNsec3Judged, IsNsec3Judged, IsNsecJudged}
 use Rattle.judge_program.specs.{Told.{below_text, nsec_tellings, AreNsec3Told, Tellings}, Text.first_line, declared.command.ChainKind.ChainKind}
 use Rattle.judge_program.specs.declared.{command.{ChainKind.TheVariants.{Nsec, Nsec3}, Nsec3Options.Nsec3Options}, shown.Shown.Shown}
@@ -33,9 +33,9 @@ pub record IsNsec3Text (hashes : HasherAnswer) (given : List RawRecord) (q : Que
   pub is : text ≡ first_line shown q.name answer ++ below_text shown answer told
 
 -- the same for what records of this kind of chain answer
-abbrev pub IsText : HasherAnswer → ChainKind → List RawRecord → Question → Shown → Octets → Type 0
-IsText hashes Nsec given q shown text = IsNsecText given q shown text
-IsText hashes (Nsec3 asked) given q shown text =
+abbrev pub IsJudgeText : HasherAnswer → ChainKind → List RawRecord → Question → Shown → Octets → Type 0
+IsJudgeText hashes Nsec given q shown text = IsNsecText given q shown text
+IsJudgeText hashes (Nsec3 asked) given q shown text =
     IsNsec3Text hashes (filter has_known_flags given) q asked shown text
 
 -- the reason why they have no answer
@@ -48,18 +48,18 @@ HasNoText hashes (Nsec3 asked) given q fault =
 -- have none, for this reason
 abbrev pub Judges : HasherAnswer → Tokens → List Octets → Octets → Type 0
 Judges hashes words lines text =
-    IsOver Asks (λ command given. IsText hashes command.kind given command.question
+    HoldsOfInput AsksToJudge (λ command given. IsJudgeText hashes command.kind given command.question
     command.shown text) words lines
 
 abbrev pub GivesNoJudgement : HasherAnswer → Tokens → List Octets → DenialFault → Type 0
 GivesNoJudgement hashes words lines fault =
-    IsOver Asks (λ command given. HasNoText hashes command.kind given command.question fault) words
+    HoldsOfInput AsksToJudge (λ command given. HasNoText hashes command.kind given command.question fault) words
     lines
 
 -- `Usage` says that the arguments are no command; any other fault, except out of memory, says that
 -- they are one
-abbrev pub TellsUsage : Tokens → DenialFault → Type 0
-TellsUsage words Usage = IsNoCommand words
-TellsUsage words (Unprepared e) = Unit {0}
-TellsUsage words OutOfMemory = Unit {0}
-TellsUsage words _ = IsCommand words
+abbrev pub TellsJudgeUsage : Tokens → DenialFault → Type 0
+TellsJudgeUsage words Usage = IsNoJudgeCommand words
+TellsJudgeUsage words (Unprepared e) = Unit {0}
+TellsJudgeUsage words OutOfMemory = Unit {0}
+TellsJudgeUsage words _ = IsJudgeCommand words

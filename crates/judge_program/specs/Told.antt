@@ -233,15 +233,15 @@ abbrev pub listed_of : Bool → Option Telling → Option AnyLink
 listed_of is_needed found = if is_needed then option_map (λ t. t.link) found else None
 
 -- the record is the same as another, if there is one
-abbrev pub is_told : AnyLink → Option AnyLink → Bool
-is_told k None = false
-is_told k (Some l) = is_same k l
+abbrev pub is_same_as : AnyLink → Option AnyLink → Bool
+is_same_as k None = false
+is_same_as k (Some l) = is_same k l
 
 -- the line of a record, if there is one, unless it is the same as one of two before it
 abbrev pub line_once : Option AnyLink → Option AnyLink → Option AnyLink → Octets
 line_once first second None = []
 line_once first second (Some k) =
-    if is_told k first || is_told k second then [] else line_of k ++ codes "\n"
+    if is_same_as k first || is_same_as k second then [] else line_of k ++ codes "\n"
 
 abbrev pub param_line : Option ParamRecord → Octets
 param_line None = []

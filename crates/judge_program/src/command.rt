@@ -1,7 +1,7 @@
 //! The command that the arguments of the program spell.
 ghost use Rattle.std.specs.Prelude.{◌≡◌, ◌⊎◌, ◌∷◌, [], ℕ, None, IfErr, IfNone, IfOk, IfSome, map, string_bytes};
 ghost use Rattle.denial_program.specs.declared.fault.DenialFault.TheVariants.{OutOfMemory};
-ghost use Rattle.judge_program.specs.Command.{Asks, IsNoCommand, KindText, LabelsText, LimitText, ShownText};
+ghost use Rattle.judge_program.specs.Command.{AsksToJudge, IsNoJudgeCommand, KindText, LabelsText, LimitText, ShownText};
 ghost use Rattle.judge_program.specs.declared.command.ChainKind.{ChainKind};
 ghost use Rattle.judge_program.specs.declared.command.Nsec3Options.{Nsec3Options};
 ghost use Rattle.judge_program.specs.declared.shown.Shown.{Shown};
@@ -122,9 +122,9 @@ fn kind_of(word: &str, options: &[String]) -> Option<(ChainKind, Shown)>
 ///
 /// `Usage` if and only if they are no command, and `OutOfMemory` if there is no memory.
 pub fn command_of(alloc: Global, words: &[String]) -> Result<Command, DenialFault>
-    ensures ok { IfOk result (Asks (map string_bytes words.now)) }
+    ensures ok { IfOk result (AsksToJudge (map string_bytes words.now)) }
     ensures err { IfErr result (λ e.
-        ((e ≡ DenialFault.Usage) × IsNoCommand (map string_bytes words.now))
+        ((e ≡ DenialFault.Usage) × IsNoJudgeCommand (map string_bytes words.now))
         ⊎ (e ≡ OutOfMemory)) }
 {
     let [word, apex, name, rtype, options @ ..] = words else {

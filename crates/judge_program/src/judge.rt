@@ -3,7 +3,7 @@ ghost use Rattle.std.specs.{Prelude.{◌≡◌, ◌++◌, filter, IfErr, OnOk, o
 ghost use Rattle.denial_program.specs.{Fault.IsBeforeOutput, Run.{IsUnwritten, IsWritten}};
 ghost use Rattle.denial_program.specs.declared.fault.DenialFault.TheVariants.{OutOfMemory as Memory};
 ghost use Rattle.judge_program.specs.{Judged.{has_known_flags, IsNotNsec3Judged}, Text.first_line, Told.{below_text, tellings_of}};
-ghost use Rattle.judge_program.specs.Run.{HasNoText, IsNsecText, IsNsec3Text, IsText};
+ghost use Rattle.judge_program.specs.Run.{HasNoText, IsNsecText, IsNsec3Text, IsJudgeText};
 
 use crate::command::{ChainKind, Command, Nsec3Options};
 use crate::nsec_told::nsec_parts;
@@ -134,10 +134,10 @@ pub fn write_judged<'a, W: Write, H: Nsec3Hasher>(
     hasher: &H,
     output: &mut W,
 ) -> Result<(), DenialFault>
-    ensures ok { OnOk result (IsWritten (λ t. t) (IsText (H.answer hasher.now) command.now.kind
+    ensures ok { OnOk result (IsWritten (λ t. t) (IsJudgeText (H.answer hasher.now) command.now.kind
         records.entry.items command.now.question command.now.shown)
         (W.contents output.old) (W.contents output.new)) }
-    ensures err { IfErr result (IsUnwritten (IsText (H.answer hasher.now) command.now.kind
+    ensures err { IfErr result (IsUnwritten (IsJudgeText (H.answer hasher.now) command.now.kind
         records.entry.items command.now.question command.now.shown)
         (HasNoText (H.answer hasher.now) command.now.kind records.entry.items
         command.now.question)) }

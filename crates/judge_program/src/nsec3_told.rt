@@ -2,12 +2,12 @@
 //! on.
 ghost use Rattle.std.specs.{Prelude.{◌≡◌, None, Some, Ok, IfErr, IfOk}, Option.option_map};
 ghost use Rattle.domain_nsec3.specs.View.{as_hashed_link, as_param_record};
-ghost use Rattle.domain_checker.specs.HashedReading.{encloser_of, found_cover, found_match};
+ghost use Rattle.domain_checker.specs.HashedReading.{encloser_of, found_hash_cover, found_hash_match};
 ghost use Rattle.domain_checker.specs.HashedVerdict.{IsFirstRefusal};
 ghost use Rattle.domain_answer.specs.{HashedReading.hashed_finding_of, Judged.{AreHashedWitnesses, IsHashedJudged}};
 ghost use Rattle.domain_answer.specs.declared.answer.Answer.TheVariants.{AtParent};
 ghost use Rattle.denial_program.specs.declared.fault.DenialFault.TheVariants.{OutOfMemory as Memory};
-ghost use Rattle.judge_program.specs.Judged.{records_of, IsRefusalAsked, IsRefusedWith, IsTold};
+ghost use Rattle.judge_program.specs.Judged.{asked_records, IsRefusalAsked, IsRefusedWith, IsNsec3Telling};
 ghost use Rattle.domain_answer.specs.Needs.{wildcard_count};
 ghost use Rattle.judge_program.specs.Told.{shows_records, closer_told, encloser_role};
 ghost use Rattle.judge_program.specs.Told.{encloser_told, finding, nsec3_told, telling_of, tellings_of};
@@ -80,7 +80,7 @@ fn cover_part<'r, 'a>(role: Role<'r>, cover: Option<&'r ReadNsec3<'a>>) -> Optio
 /// Returns the record that was found for a name.
 fn part_of<'r, 'a>(role: Role<'r>, found: Found<'r, 'a>) -> Option<Part<'r, 'a>>
     ensures { option_map telling_of result ≡ finding hashed role.entry
-        (found_match (λ n. n) found.entry) (found_cover (λ n. n) found.entry) }
+        (found_hash_match (λ n. n) found.entry) (found_hash_cover (λ n. n) found.entry) }
 {
     match found {
         Nsec3Found::Match(nsec3) => Some(Part {
@@ -158,7 +158,7 @@ impl<'i, 'r, 'a, H: Nsec3Hasher> Inquiry<'i, 'r, 'a, H> {
     /// about a name that no record matches. None too if the hasher fails for it.
     fn find_wildcard(&self, answer: Answer) -> Result<Option<Part<'r, 'a>>, DenialFault>
         ensures ok { IfOk result (λ part. option_map telling_of part
-            ≡ told_where (nsec3_told (records_of H.answer self.now))
+            ≡ told_where (nsec3_told (asked_records H.answer self.now))
             (wildcard_asked self.now.question.now.name (wildcard_count answer))) }
         ensures err { IfErr result (λ e. e ≡ Memory) }
     {
@@ -187,7 +187,7 @@ impl<'i, 'r, 'a, H: Nsec3Hasher> Inquiry<'i, 'r, 'a, H> {
         found: Option<Found<'r, 'a>>,
     ) -> Result<Option<Part<'r, 'a>>, DenialFault>
         ensures ok { IfOk result (λ part. option_map telling_of part
-            ≡ wildcard_or_found (records_of H.answer self.now) self.now.question.now.name answer
+            ≡ wildcard_or_found (asked_records H.answer self.now) self.now.question.now.name answer
             (option_map (hashed_finding_of (λ n. n)) found.entry)) }
         ensures err { IfErr result (λ e. e ≡ Memory) }
     {
@@ -205,10 +205,10 @@ impl<'i, 'r, 'a, H: Nsec3Hasher> Inquiry<'i, 'r, 'a, H> {
     /// `Signing` if the hasher fails for the apex, and `OutOfMemory` if there is no memory.
     fn find_apex(&self, limit: u16) -> Result<Option<Parts<'r, 'a>>, DenialFault>
         ensures ok { IfOk result (λ parts. AreWhole limit
-            (as_param_record (λ n. n) self.now.nsec3param.now) (records_of H.answer self.now)
+            (as_param_record (λ n. n) self.now.nsec3param.now) (asked_records H.answer self.now)
             self.now.question.now.name AtParent (option_map tellings_of parts)) }
         ensures err { IfErr result (IsRefusedWith
-            (IsFirstRefusal (records_of H.answer self.now) self.now.question.now.name)) }
+            (IsFirstRefusal (asked_records H.answer self.now) self.now.question.now.name)) }
     {
         if self.index.iterations() > limit {
             return Ok(None);
@@ -236,17 +236,17 @@ impl<'i, 'r, 'a, H: Nsec3Hasher> Inquiry<'i, 'r, 'a, H> {
         judged: Judged<'r, 'a>,
     ) -> Result<Option<Parts<'r, 'a>>, DenialFault>
         ensures ok { IfOk result (λ parts.
-            IsHashedJudged (records_of H.answer self.now) self.now.question.now.name
+            IsHashedJudged (asked_records H.answer self.now) self.now.question.now.name
             self.now.question.now.rtype limit (Ok judged.entry.answer)
-            → AreHashedWitnesses (records_of H.answer self.now) self.now.question.now.name
+            → AreHashedWitnesses (asked_records H.answer self.now) self.now.question.now.name
             self.now.question.now.rtype limit judged.entry.answer
             (option_map (encloser_of (λ n. n)) judged.entry.encloser)
             (option_map (hashed_finding_of (λ n. n)) judged.entry.wildcard)
             → AreNsec3Told (shows_records judged.entry.answer) shown None limit
-            (as_param_record (λ n. n) self.now.nsec3param.now) (records_of H.answer self.now)
+            (as_param_record (λ n. n) self.now.nsec3param.now) (asked_records H.answer self.now)
             self.now.question.now.name judged.entry.answer (option_map tellings_of parts)) }
         ensures err { IfErr result (IsRefusedWith
-            (IsFirstRefusal (records_of H.answer self.now) self.now.question.now.name)) }
+            (IsFirstRefusal (asked_records H.answer self.now) self.now.question.now.name)) }
     {
         let Nsec3Judgement {
             answer,
@@ -271,10 +271,10 @@ impl<'i, 'r, 'a, H: Nsec3Hasher> Inquiry<'i, 'r, 'a, H> {
 
     /// Returns the whole answer, and the records to print below it.
     fn judge_whole(&self, limit: u16, shown: Shown) -> Result<Told<'r, 'a>, DenialFault>
-        ensures ok { IfOk result (IsTold None limit shown self.now.question.now
-            (as_param_record (λ n. n) self.now.nsec3param.now) (records_of H.answer self.now)) }
+        ensures ok { IfOk result (IsNsec3Telling None limit shown self.now.question.now
+            (as_param_record (λ n. n) self.now.nsec3param.now) (asked_records H.answer self.now)) }
         ensures err { IfErr result (IsRefusedWith (IsRefusalAsked None
-            (records_of H.answer self.now) self.now.question.now limit)) }
+            (asked_records H.answer self.now) self.now.question.now limit)) }
     {
         let Question { name, rtype, .. } = self.question;
         // A name has at most 127 labels.
@@ -301,10 +301,10 @@ impl<'i, 'r, 'a, H: Nsec3Hasher> Inquiry<'i, 'r, 'a, H> {
         limit: u16,
         shown: Shown,
     ) -> Result<Told<'r, 'a>, DenialFault>
-        ensures ok { IfOk result (IsTold (Some labels) limit shown self.now.question.now
-            (as_param_record (λ n. n) self.now.nsec3param.now) (records_of H.answer self.now)) }
+        ensures ok { IfOk result (IsNsec3Telling (Some labels) limit shown self.now.question.now
+            (as_param_record (λ n. n) self.now.nsec3param.now) (asked_records H.answer self.now)) }
         ensures err { IfErr result (IsRefusedWith (IsRefusalAsked (Some labels)
-            (records_of H.answer self.now) self.now.question.now limit)) }
+            (asked_records H.answer self.now) self.now.question.now limit)) }
     {
         let name = &self.question.name;
         let count = labels as usize;
@@ -337,10 +337,11 @@ impl<'i, 'r, 'a, H: Nsec3Hasher> Inquiry<'i, 'r, 'a, H> {
     /// `Signing` if the hasher fails for a name that is looked up (with labels, only the next
     /// closer name, which has one label more), and `OutOfMemory` if there is no memory.
     pub fn judge(&self, asked: Nsec3Options, shown: Shown) -> Result<Told<'r, 'a>, DenialFault>
-        ensures ok { IfOk result (IsTold asked.labels asked.limit shown self.now.question.now
-            (as_param_record (λ n. n) self.now.nsec3param.now) (records_of H.answer self.now)) }
+        ensures ok { IfOk result (IsNsec3Telling asked.labels asked.limit shown
+            self.now.question.now
+            (as_param_record (λ n. n) self.now.nsec3param.now) (asked_records H.answer self.now)) }
         ensures err { IfErr result (IsRefusedWith (IsRefusalAsked asked.labels
-            (records_of H.answer self.now) self.now.question.now asked.limit)) }
+            (asked_records H.answer self.now) self.now.question.now asked.limit)) }
     {
         let Nsec3Options { labels, limit } = asked;
         match labels {

@@ -1,8 +1,8 @@
 //! Runs the program over any reader and any writer.
 ghost use Rattle.std.specs.Prelude.{◌≡◌, IfErr, MatchResult, map, string_bytes};
-ghost use Rattle.denial_program.specs.{Fault.IsBeforeOutput, Run.IsRun};
-ghost use Rattle.judge_program.specs.Command.{IsCommand};
-ghost use Rattle.judge_program.specs.Run.{GivesNoJudgement, Judges, TellsUsage};
+ghost use Rattle.denial_program.specs.{Fault.IsBeforeOutput, Run.IsProgramRun};
+ghost use Rattle.judge_program.specs.Command.{IsJudgeCommand};
+ghost use Rattle.judge_program.specs.Run.{GivesNoJudgement, Judges, TellsJudgeUsage};
 
 use crate::command::command_of;
 use crate::judge::write_judged;
@@ -37,14 +37,15 @@ pub fn run_judge<R: BufRead, W: Write, H: Nsec3Hasher>(
     output: &mut W,
 ) -> Result<(), DenialFault>
     // The answer to the command, over the records that the lines give.
-    ensures run { IsRun (λ text. text) (Judges (H.answer hasher.now) (map string_bytes words.now))
+    ensures run { IsProgramRun (λ text. text) (Judges (H.answer hasher.now)
+        (map string_bytes words.now))
         (GivesNoJudgement (H.answer hasher.now) (map string_bytes words.now))
         (R.remaining input.old) (R.remaining input.new) (W.contents output.old)
         (W.contents output.new) result }
 
     // `Usage` if and only if the arguments are no command, unless memory runs out.
-    ensures usage { MatchResult result (λ _. IsCommand (map string_bytes words.now))
-        (TellsUsage (map string_bytes words.now)) }
+    ensures usage { MatchResult result (λ _. IsJudgeCommand (map string_bytes words.now))
+        (TellsJudgeUsage (map string_bytes words.now)) }
 
     ensures untouched { IfErr result (λ e. IsBeforeOutput e → output.new ≡ output.old) }
 {

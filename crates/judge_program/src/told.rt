@@ -2,7 +2,7 @@
 ghost use Rattle.std.specs.{Prelude.{◌≡◌, Some, [], OnOk, if◌then◌else◌}, Option.option_map};
 ghost use Rattle.std.specs.Io.KnownBytes.{Appends};
 ghost use Rattle.domain_nsec3.specs.View.{as_param_record};
-ghost use Rattle.judge_program.specs.Told.{any_of, below_text, is_needed, is_told, line_of, line_once, listed_of, matched_part, param_line, records_text, telling_of, tellings_of, told_line};
+ghost use Rattle.judge_program.specs.Told.{any_of, below_text, is_needed, is_same_as, line_of, line_once, listed_of, matched_part, param_line, records_text, telling_of, tellings_of, told_line};
 
 use crate::role::Role;
 use crate::shown::Shown;
@@ -109,8 +109,8 @@ fn listed_of<'r, 'a>(is_needed: bool, found: &Option<Part<'r, 'a>>) -> Option<Li
 }
 
 /// Returns whether the record is the same as another.
-fn is_told(listed: Listed<'_, '_>, other: Option<Listed<'_, '_>>) -> bool
-    ensures { result ≡ is_told (any_of listed.entry) (option_map any_of other.entry) }
+fn is_same_as(listed: Listed<'_, '_>, other: Option<Listed<'_, '_>>) -> bool
+    ensures { result ≡ is_same_as (any_of listed.entry) (option_map any_of other.entry) }
 {
     match (listed, other) {
         (Listed::Nsec(nsec), Some(Listed::Nsec(other))) => nsec == other,
@@ -133,7 +133,7 @@ fn write_once<W: Write>(
     let Some(listed) = found else {
         return Ok(());
     };
-    if is_told(listed, first) | is_told(listed, second) {
+    if is_same_as(listed, first) | is_same_as(listed, second) {
         return Ok(());
     }
     writeln!(output, "{listed}")

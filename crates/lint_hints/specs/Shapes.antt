@@ -8,8 +8,8 @@ use Rattle.domain_base.specs.Types as rtypes
 -- the shape of the data of a type: CNAME, PTR and DNAME (RFC 1035, sections 3.3.1 and 3.3.12; RFC
 -- 6672); TXT and SPF (RFC 1035, section 3.3.14; RFC 7208); AAAA (RFC 3596); SRV (RFC 2782); TLSA
 -- (RFC 6698); and CAA (RFC 8659)
-abbrev pub shape_of : ℕ → Shape
-shape_of t =
+abbrev pub data_shape : ℕ → Shape
+data_shape t =
     if (t == rtypes.cname) || ((t == rtypes.ptr) || (t == rtypes.dname)) then OneName
     else if (t == rtypes.txt) || (t == 99) then Texts
     else if t == rtypes.aaaa then LongAddress

@@ -1,7 +1,7 @@
 //! The generic form of data (RFC 3597, section 5), for types without a presentation format of their
 //! own here.
 
-use crate::odd::{Shape, shape_of};
+use crate::odd::{Shape, data_shape};
 use domain_base::{Name, Rtype, ScanError, ToName};
 use domain_octets::{OctetsBuilder, SmallOctets};
 use std::alloc::{AllocError, Global};
@@ -54,7 +54,7 @@ fn put_data(
     rtype: Rtype,
     words: &[&str],
 ) -> Result<(), ScanError> {
-    match (shape_of(rtype), words) {
+    match (data_shape(rtype), words) {
         (Shape::OneName, [name]) => put_name(alloc, data, name),
         (Shape::LongAddress, [address]) => {
             let address = address.parse::<Ipv6Addr>().map_err(|_| NO_DATA)?;

@@ -3,7 +3,7 @@
 //! - `quoted` quotes a word. Functions whose names end in `_trouble` return what is wrong with a
 //!   word, `strange_trouble` with one of several.
 //! - `told_of_data` and `missing_data` return what is wrong with the data of a record.
-//! - `shape_of` and `is_such` check data that have no format of their own here, and `has_extras`
+//! - `data_shape` and `is_such` check data that have no format of their own here, and `has_extras`
 //!   checks NSEC3PARAM data. The definitions are in `specs/Shapes.antt`.
 //!
 //! The wording of hints may change.
@@ -20,5 +20,5 @@ mod wanted;
 pub use data_hint::{missing_data, told_of_data};
 pub use hint::{class_trouble, quoted, strange_trouble, ttl_trouble, type_trouble};
 pub use name_hint::name_trouble;
-pub use odd::{Shape, has_extras, is_such, shape_of};
+pub use odd::{Shape, data_shape, has_extras, is_such};
 pub use wanted::{Part, fields_of};

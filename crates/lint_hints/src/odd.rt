@@ -1,6 +1,6 @@
 //! Data that records may have but that are seldom intended.
 ghost use Rattle.std.specs.Prelude.{◌≡◌, ◌↔◌, IsTrue};
-ghost use Rattle.lint_hints.specs.Shapes.{has_extras, shape_of, AreTexts, HaveTag, IsSuch};
+ghost use Rattle.lint_hints.specs.Shapes.{has_extras, data_shape, AreTexts, HaveTag, IsSuch};
 
 use domain_base::{Name, Rtype};
 
@@ -40,8 +40,8 @@ impl Shape {
 
 /// Returns the shape of data of a type, or `Whatever` for a type that is not checked here. Types
 /// with a data format of their own are checked when they are read.
-pub fn shape_of(rtype: Rtype) -> Shape
-    ensures { result ≡ shape_of rtype }
+pub fn data_shape(rtype: Rtype) -> Shape
+    ensures { result ≡ data_shape rtype }
 {
     match rtype.to_int() {
         5 | 12 | 39 => Shape::OneName,

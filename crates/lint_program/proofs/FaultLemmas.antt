@@ -9,7 +9,7 @@ use Rattle.domain_records.specs.Order.{IsOneClass}
 use Rattle.domain_zone.specs.Zone.{covered_names, has_unequal_ttls, soa_of, unoccluded_owners}
 use Rattle.domain_zone.{specs.declared.soa.ApexSoa.ApexSoa, proofs.GivenLemmas.none_left_out}
 use Rattle.domain_borrowed.specs.Data.{zone_of_raw, RawRecord}
-use Rattle.denial_program.specs.{Answer.Sorts, declared.{answer.Reply.TheVariants.Nsecs, fault.DenialFault.TheVariants.{MixedClasses, Signing}}}
+use Rattle.denial_program.specs.{Answer.SortsRaw, declared.{answer.Reply.TheVariants.Nsecs, fault.DenialFault.TheVariants.{MixedClasses, Signing}}}
 use Rattle.denial_program.proofs.RunLemmas.{nsecs_made}
 use Rattle.lint_program.specs.Faults.{are_any, AreFaultsOf}
 use Rattle.lint_program.specs.declared.{faults.ZoneFaults.ZoneFaults}
@@ -25,7 +25,7 @@ is_not : {A : Type 0} (o : Option A) → is_some o ≡ true → o ≢ None
 is_not None e = absurd (cc)
 is_not (Some x) e = λ f. cc
 
-pub faults_found : (given sorted : List RawRecord) (apex : Name) → Sorts given sorted → IsOneClass sorted → (faults : ZoneFaults)
+pub faults_found : (given sorted : List RawRecord) (apex : Name) → SortsRaw given sorted → IsOneClass sorted → (faults : ZoneFaults)
     → faults.classes ≡ false → is_some (soa_of (zone_of_raw sorted) apex) ≡ not faults.soa
     → faults.ttls ≡ has_unequal_ttls (zone_of_raw sorted) (covered_names false false (zone_of_raw sorted) apex) → AreFaultsOf given apex faults
 faults_found given sorted apex sorts one faults classes soa ttls =

@@ -13,20 +13,20 @@ use Rattle.domain_zone.proofs.{NameLemmas.same_is, PairLemmas.in_filter, WalkLem
 use Rattle.domain_nsec.specs.Chain.{usual_config}
 use Rattle.domain_nsec.specs.Chain as nsec
 use Rattle.domain_nsec3.specs.Chain.{hash_fault, is_hashed_before, is_original_owner, original_owners, AreAllHashed, ChainConfig, HasCollision}
-use Rattle.domain_nsec3.specs.Chain.{IsFaultless, IsFirstFault, IsFirstHashFault, IsFirstHashingFault}
+use Rattle.domain_nsec3.specs.Chain.{IsHashedFaultless, IsFirstHashedFault, IsFirstHashFault, IsFirstHashingFault}
 use Rattle.domain_nsec3.{specs.View.{config_of, HasherAnswer}, proofs.ChainLemmas.hash_same}
 use Rattle.domain_nsec3.specs.declared.config.GenerateNsec3Config.{GenerateNsec3Config}
 use Rattle.domain_alike.specs.Alike.{AreAlike, IsAlike, Pair}
 use Rattle.domain_records.specs.Order.{IsOneClass}
 use Rattle.domain_borrowed.specs.Data.{zone_of_raw, RawRecord}
 use Rattle.domain_any_order.specs.{AnyOrder.OfZone, RawRecords.raw_view}
-use Rattle.denial_program.specs.{Answer.{usual_nsec3_config, HasNoNsecs, HasNoNsec3s, Sorts}, Command.Params, Fault.IsOfRecords}
+use Rattle.denial_program.specs.{Answer.{usual_nsec3_config, HasNoNsecs, HasNoNsec3s, SortsRaw}, Command.Params, Fault.IsOfRecords}
 use Rattle.denial_program.{specs.declared.fault.DenialFault.{DenialFault, TheVariants.{MixedClasses, Param, Signing}}}
-use Rattle.lint_program.specs.{Alike.{AreTold}, Faults.AreFaultless, Hashed.{hash_fault_line, nsec3_fault_text, AreHashable, IsNsec3Fault}}
+use Rattle.lint_program.specs.{Alike.{AreTold}, Faults.AreFaultless, Hashed.{hash_fault_line, nsec3_fault_text, AreHashable, IsNsec3Rejection}}
 use Rattle.lint_program.{specs.Report.AreRefused, proofs.SetLemmas.{not_mixed, of_both}}
 
 -- no two names of a zone without a fault have the same hash
-none_alike : (L : List ZoneRecord) (a : Name) (config : ChainConfig) → IsFaultless L a config → AreAlike L a config []
+none_alike : (L : List ZoneRecord) (a : Name) (config : ChainConfig) → IsHashedFaultless L a config → AreAlike L a config []
 unfolding IsStrictlySortedBy
 none_alike L a config h = record {
   told = All-from_recursion (IsAlike L a config) [] tt;
@@ -39,16 +39,16 @@ pub config_usual : {S : Type 0} (answers : HasherAnswer) (config : GenerateNsec3
     → config.occlude_below_dname ≡ false → config_of answers config ≡ usual_nsec3_config answers p
 config_usual answers config p params excludes dnskeys dnames = grind (arith, common_steps)
 
-module _ (answers : HasherAnswer) (given sorted : List RawRecord) (apex : Name) (p : Params) (sorts : Sorts given sorted) (one : IsOneClass sorted) where
+module _ (answers : HasherAnswer) (given sorted : List RawRecord) (apex : Name) (p : Params) (sorts : SortsRaw given sorted) (one : IsOneClass sorted) where
   module _ (config : ChainConfig) (usual : config ≡ usual_nsec3_config answers p) where
-    pub hashed_well : IsFaultless (zone_of_raw sorted) apex config → AreHashable answers given apex p
-    hashed_well h = record { sorted = sorted; sorts = sorts; one_class = one; zone = subst (IsFaultless (zone_of_raw sorted) apex) usual h }
+    pub hashed_well : IsHashedFaultless (zone_of_raw sorted) apex config → AreHashable answers given apex p
+    hashed_well h = record { sorted = sorted; sorts = sorts; one_class = one; zone = subst (IsHashedFaultless (zone_of_raw sorted) apex) usual h }
 
     alike_told : (pairs : List Pair) → AreAlike (zone_of_raw sorted) apex config pairs → AreTold answers given apex (Some p) pairs
     alike_told pairs h =
         inr (record { sorted = sorted; sorts = sorts; one_class = one; zone = subst (λ c. AreAlike (zone_of_raw sorted) apex c pairs) usual h })
 
-    pub none_told : IsFaultless (zone_of_raw sorted) apex config → AreTold answers given apex (Some p) []
+    pub none_told : IsHashedFaultless (zone_of_raw sorted) apex config → AreTold answers given apex (Some p) []
     none_told h = alike_told [] (none_alike (zone_of_raw sorted) apex config h)
 
 -- ---- `denial nsec3` rejects records for one fault.
@@ -91,7 +91,7 @@ module _ (L : List ZoneRecord) (a : Name) (config : ChainConfig) where
         | inr p ↦ elim (either_fault f k) [ inl q ↦ hashed_or_not f q p.1 | inr q ↦ p.0 ∙ sym q.0 ]
       ]
 
-  one_fault : (e f : SigningError) → IsFirstFault L a config e → IsFirstFault L a config f → e ≢ NoRoom → f ≢ NoRoom → e ≡ f
+  one_fault : (e f : SigningError) → IsFirstHashedFault L a config e → IsFirstHashedFault L a config f → e ≢ NoRoom → f ≢ NoRoom → e ≡ f
   one_fault EmptyRecordSlice f h k p q = absurd h
   one_fault NoRoom f h k p q = absurd (p refl)
   one_fault SoaRecordCouldNotBeDetermined SoaRecordCouldNotBeDetermined h k p q = refl
@@ -106,7 +106,7 @@ module _ (L : List ZoneRecord) (a : Name) (config : ChainConfig) where
   one_fault e EmptyRecordSlice h k p q = absurd k
   one_fault e NoRoom h k p q = absurd (q refl)
 
-  faultless_none : (e : SigningError) → IsFaultless L a config → IsFirstFault L a config e → e ≢ NoRoom → ⊥
+  faultless_none : (e : SigningError) → IsHashedFaultless L a config → IsFirstHashedFault L a config e → e ≢ NoRoom → ⊥
   faultless_none EmptyRecordSlice h k p = k
   faultless_none NoRoom h k p = p refl
   faultless_none SoaRecordCouldNotBeDetermined h k p = h.ready.soa k
@@ -117,7 +117,7 @@ module _ (answers : HasherAnswer) (given : List RawRecord) (apex : Name) (p : Pa
   abbrev chain_config : ChainConfig
   chain_config = usual_nsec3_config answers p
 
-  pub one_nsec3_fault : (fault : Option SigningError) (e : SigningError) → IsNsec3Fault answers given apex (Some p) fault
+  pub one_nsec3_fault : (fault : Option SigningError) (e : SigningError) → IsNsec3Rejection answers given apex (Some p) fault
       → HasNoNsec3s answers given apex p (Signing e) → fault ≡ Some e
   one_nsec3_fault None e (inl mixed) h = absurd (not_mixed given _ mixed h)
   one_nsec3_fault None e (inr well) h =
@@ -158,7 +158,7 @@ module _ (answers : HasherAnswer) (given : List RawRecord) (apex : Name) (p : Pa
   alike_of_zone (inr z) h = z
 
   -- records that have no fault of an NSEC chain, and no line about hashing, have none of an NSEC3 chain but the hasher's
-  pub hashed_told : (fault : Option SigningError) → IsNsec3Fault answers given apex (Some p) fault → AreTold answers given apex (Some p) []
+  pub hashed_told : (fault : Option SigningError) → IsNsec3Rejection answers given apex (Some p) fault → AreTold answers given apex (Some p) []
       → AreFaultless given apex → nsec3_fault_text fault ≡ []
       → AreHashable answers given apex p ⊎ ((n : ℕ) × HasNoNsec3s answers given apex p (Signing (Nsec3HashingError (hash_error.Hasher n))))
   hashed_told None (inl mixed) told h none = absurd (not_mixed given _ mixed h)

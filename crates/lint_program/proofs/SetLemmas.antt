@@ -7,9 +7,9 @@ use Rattle.domain_record.specs.Record.{record_cmp_total}
 use Rattle.domain_records.specs.Order.{first_equal}
 use Rattle.domain_zone.proofs.PairLemmas.{all_in, find_some}
 use Rattle.domain_zone.specs.Zone.{ZoneRecord}
-use Rattle.domain_borrowed.specs.Data.{data_cmp, data_cmp_total, zone_of_raw, RawRecord}
+use Rattle.domain_borrowed.specs.Data.{raw_cmp, raw_cmp_total, zone_of_raw, RawRecord}
 use Rattle.domain_any_order.{specs.{AnyOrder.{AreMixed, OfZone}, RawRecords.raw_view}, proofs.KeptLemmas.classes_kept}
-use Rattle.denial_program.specs.Answer.{Sorts}
+use Rattle.denial_program.specs.Answer.{SortsRaw}
 
 module _ {X : Type 0} {R : X → X → Ordering} (total : IsTotalOrder R) where
   -- none of those after x is equal to what is equal to x
@@ -55,9 +55,9 @@ module _ {X : Type 0} {R : X → X → Ordering} (total : IsTotalOrder R) where
       λ i. e i ∷ one_set xs ys s.1 t.1 tails i
 
 -- records have one sorted set
-pub one_sorted : (given s t : List RawRecord) → Sorts given s → Sorts given t → s ≡ t
+pub one_sorted : (given s t : List RawRecord) → SortsRaw given s → SortsRaw given t → s ≡ t
 one_sorted given s t g h =
-    one_set (record_cmp_total (λ n. n) (λ d. d.rtype) data_cmp data_cmp_total) s t g.set.sorted h.set.sorted (λ z. g.earliest refl z ∙ sym (h.earliest refl z))
+    one_set (record_cmp_total (λ n. n) (λ d. d.rtype) raw_cmp raw_cmp_total) s t g.set.sorted h.set.sorted (λ z. g.earliest refl z ∙ sym (h.earliest refl z))
 
 -- so what holds of it, one by one, holds together
 pub of_both : (given : List RawRecord) (P Q : List ZoneRecord → Type 0) → OfZone raw_view given P → OfZone raw_view given Q

@@ -15,10 +15,10 @@ use Rattle.domain_records.specs.Order.{IsOneClass}
 use Rattle.domain_zone.specs.Zone.{as_zone_record, clashes, has_clash, has_type, has_unequal_ttls, is_soa, numbers_of, of_only, records_of, soa_of, ZoneRecord}
 use Rattle.domain_zone.proofs.{NameLemmas.{one_lowered, same_itself}, PairLemmas.{In, all_in, from_map, in_filter, in_filtered, in_front, in_map}}
 use Rattle.domain_zone.proofs.WalkLemmas.{any_in, in_any}
-use Rattle.domain_borrowed.{specs.Data.{data_cmp, data_cmp_total, minimum_of, zone_of_raw, RawRecord}, proofs.DataLemmas.minimum_last}
+use Rattle.domain_borrowed.{specs.Data.{raw_cmp, raw_cmp_total, raw_minimum, zone_of_raw, RawRecord}, proofs.DataLemmas.minimum_last}
 use Rattle.domain_any_order.specs.{RawRecords.{raw_data, raw_view}}
 use Rattle.domain_any_order.proofs.{AmongLemmas.{all_pairs, contains_in}, KeptLemmas.{clash_among, type_kept}}
-use Rattle.denial_program.specs.{Answer.Sorts, Listing.{IsLineRecord}}
+use Rattle.denial_program.specs.{Answer.SortsRaw, Listing.{IsLineRecord}}
 use Rattle.lint_program.specs.Faults.{are_any, fails, AreFaultless, AreFaultsOf}
 use Rattle.lint_program.specs.Notes.{is_apex_soa, missing_soa, AreNoted, Mark}
 use Rattle.lint_program.specs.{Report.{AreLinted, AreRefused}, declared.{faults.ZoneFaults.ZoneFaults, looks.Reason.Reason}}
@@ -43,19 +43,19 @@ formless : (rtype : ℕ) → kind_of rtype ≡ None → rtype ≡ rtypes.soa →
 formless rtype none same = let e = subst (λ t. kind_of t ≡ None) same none in absurd (cc)
 
 minimum_spelled : (rtype : ℕ) (old : Tokens) (d : ZoneRecordData Octets Name) → RdataText (λ o. o) (λ n. n) rtype old d [] → rtype_of d ≡ rtypes.soa
-    → (m : ℕ) × (minimum_of (raw_data (λ o. o) (λ n. n) d) ≡ Some m)
+    → (m : ℕ) × (raw_minimum (raw_data (λ o. o) (λ n. n) d) ≡ Some m)
 minimum_spelled rtype old (Soa d) (own other text) e = (d.minimum, minimum_last _ (fits 32 text.1.2.2.2.token d.minimum text.1.2.2.2.holds))
 minimum_spelled rtype old (Soa d) (generic wire text are end) e = (d.minimum, minimum_last _ are.1.fits.1.1.1)
 minimum_spelled rtype old (Unknown d) (own other text) e = absurd text.1
 minimum_spelled rtype old (Unknown d) (generic wire text are end) e = absurd (formless d.rtype (subst (λ t. kind_of t ≡ None) are.0 are.1.0) e)
 minimum_spelled rtype old _ text e = absurd (omega arith)
 
-minimum_read : (line : Octets) (r : RawRecord) → IsLineRecord line r → r.«data».rtype ≡ rtypes.soa → (m : ℕ) × (minimum_of r.«data» ≡ Some m)
+minimum_read : (line : Octets) (r : RawRecord) → IsLineRecord line r → r.«data».rtype ≡ rtypes.soa → (m : ℕ) × (raw_minimum r.«data» ≡ Some m)
 minimum_read line r is soa =
     let t = is.spelled in
     let same = ap (λ (q : RawRecord). q.«data») t.raw in
     let m = minimum_spelled _ _ t.spelled.«data» t.are.body.spelled (ap (λ d. d.rtype) same ∙ soa) in
-    (m.0, ap minimum_of (sym same) ∙ m.1)
+    (m.0, ap raw_minimum (sym same) ∙ m.1)
 
 line_of : (n : ℕ) (lines : List Octets) (bad numbers : List ℕ) (records : List RawRecord) → AreLinted n lines bad numbers records
     → (r : RawRecord) → In r records → (line : Octets) × IsLineRecord line r
@@ -71,7 +71,7 @@ line_of n (line ∷ more) bad numbers records (inr (inr h)) r i = line_of (n + 1
 -- ---- Without a note about a fault there is none.
 
 abbrev see : RawRecord → ZoneRecord
-see = as_zone_record (λ n. n) (λ d. d.rtype) minimum_of
+see = as_zone_record (λ n. n) (λ d. d.rtype) raw_minimum
 
 -- ---- TTLs
 
@@ -103,7 +103,7 @@ no_clash given even n h =
     clash_of given even n x.0 y.0 x.1 y.1 (subst (λ z. same_name z.owner n ≡ true) (sym x.2) i.1) (subst (λ z. same_name z.owner n ≡ true) (sym y.2) j.1)
     (subst (λ z. clashes z (see y.0) ≡ true) (sym x.2) (subst (λ z. clashes p.0 z ≡ true) (sym y.2) q.2))
 
-even_zone : (given sorted : List RawRecord) → Sorts given sorted → AreEven given → (names : List Name) → has_unequal_ttls (zone_of_raw sorted) names ≡ true
+even_zone : (given sorted : List RawRecord) → SortsRaw given sorted → AreEven given → (names : List Name) → has_unequal_ttls (zone_of_raw sorted) names ≡ true
     → ⊥
 even_zone given sorted sorts even names h =
     let n = any_in (λ n. has_clash (records_of (zone_of_raw sorted) n)) names h in
@@ -112,10 +112,10 @@ even_zone given sorted sorts even names h =
 -- ---- SOA records
 
 abbrev R : RawRecord → RawRecord → Ordering
-R = record_cmp (λ n. n) (λ d. d.rtype) data_cmp
+R = record_cmp (λ n. n) (λ d. d.rtype) raw_cmp
 
 R_total : IsTotalOrder R
-R_total = record_cmp_total (λ n. n) (λ d. d.rtype) data_cmp data_cmp_total
+R_total = record_cmp_total (λ n. n) (λ d. d.rtype) raw_cmp raw_cmp_total
 
 none_pass : (a : Name) (xs : List RawRecord) → ((y : RawRecord) → In y xs → is_apex_soa a y ≡ true → ⊥) → filter (is_soa a) (map see xs) ≡ []
 none_pass a [] h = refl
@@ -147,7 +147,7 @@ only_pass a r (x ∷ xs) up only h =
           ∙ only_pass a r xs up.1 (λ y i. only y (inr i)) (sym (ap (λ b. b || list_any (is_soa a) (map see xs)) e) ∙ h)
     ]
 
-module _ (given sorted : List RawRecord) (a : Name) (sorts : Sorts given sorted) where
+module _ (given sorted : List RawRecord) (a : Name) (sorts : SortsRaw given sorted) where
   among : (x : RawRecord) → In x sorted → In x given
   among x i = contains_in given x (all_in (Contains given) sorted x (recursion_from_All (Contains given) sorted sorts.set.among) i)
 
@@ -161,7 +161,7 @@ module _ (given sorted : List RawRecord) (a : Name) (sorts : Sorts given sorted)
       in_any (is_soa a) (zone_of_raw sorted) f.0 j.0 (λ k. f.2 k && j.1 k)
 
   soa_kept : (r : RawRecord) → In r given → is_apex_soa a r ≡ true → ((x : RawRecord) → In x given → is_apex_soa a x ≡ true → x ≡ r)
-      → (m : ℕ) → minimum_of r.«data» ≡ Some m → soa_of (zone_of_raw sorted) a ≡ None → ⊥
+      → (m : ℕ) → raw_minimum r.«data» ≡ Some m → soa_of (zone_of_raw sorted) a ≡ None → ⊥
   soa_kept r i is only m known none =
       let one = only_pass a r sorted sorts.set.sorted (λ x j. only x (among x j)) (soa_there r i is) in
       let some : soa_of (zone_of_raw sorted) a ≡ numbers_of (see r) (Some m) = ap of_only one ∙ ap (numbers_of (see r)) known in
@@ -204,7 +204,7 @@ module _ (a : Name) (lines : List Octets) (records : List RawRecord) (numbers : 
     even : faults.ttls ≡ true → AreEven records
     even e = ttls_same a records numbers noted.ttls noted.ttls_found (λ h. unmarked OtherTtl e (h.0, of_ttls h.0 h.1, h.2))
 
-    no_soa_fault : faults.soa ≡ true → (sorted : List RawRecord) → Sorts records sorted → soa_of (zone_of_raw sorted) a ≡ None → ⊥
+    no_soa_fault : faults.soa ≡ true → (sorted : List RawRecord) → SortsRaw records sorted → soa_of (zone_of_raw sorted) a ≡ None → ⊥
     no_soa_fault e sorted sorts none =
         elim (cases_Bool (list_any (is_apex_soa a) records)) [
           | inl f ↦

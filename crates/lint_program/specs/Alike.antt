@@ -2,7 +2,7 @@
 use Rattle.std.specs.Prelude.{◌≡◌, ◌⊎◌, ℕ, List, [], ◌++◌, Option, Some, None, codes}
 use Rattle.domain_octets.specs.Octets.{Octets}
 use Rattle.domain_names.specs.{Text.name_text, Name.Name}
-use Rattle.domain_alike.specs.Alike.{AreAlike, IsFirstRefusal, Pair}
+use Rattle.domain_alike.specs.Alike.{AreAlike, IsFirstChainRefusal, Pair}
 use Rattle.domain_any_order.specs.{AnyOrder.{AreMixed, OfZone}, RawRecords.raw_view}
 use Rattle.domain_borrowed.specs.Data.{RawRecord}
 use Rattle.domain_nsec3.specs.View.{HasherAnswer}
@@ -21,7 +21,7 @@ AreTold answers given apex (Some p) pairs =
 abbrev pub IsRefusalBy : HasherAnswer → List RawRecord → Name → Option Params → ℕ → Type 0
 IsRefusalBy answers given apex None number = ⊥
 IsRefusalBy answers given apex (Some p) number =
-    OfZone raw_view given (λ L. IsFirstRefusal L apex (usual_nsec3_config answers p) number)
+    OfZone raw_view given (λ L. IsFirstChainRefusal L apex (usual_nsec3_config answers p) number)
 
 -- the line about a pair
 abbrev pub alike_line : Pair → Octets

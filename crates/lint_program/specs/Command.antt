@@ -19,15 +19,15 @@ pub record AsksHashed (words : Tokens) (apex : Name) (p : Params) : Type 0 where
   pub parameters : Spell iterations_word salt_word [] p
 
 -- the arguments spell this apex, and these parameters or none
-abbrev pub Asks : Tokens → Name → Option Params → Type 0
-Asks words apex None = AsksPlainly words apex
-Asks words apex (Some p) = AsksHashed words apex p
+abbrev pub AsksToLint : Tokens → Name → Option Params → Type 0
+AsksToLint words apex None = AsksPlainly words apex
+AsksToLint words apex (Some p) = AsksHashed words apex p
 
-abbrev pub IsCommand : Tokens → Type 0
-IsCommand words = (apex : Name) × (p : Option Params) × Asks words apex p
+abbrev pub IsLintCommand : Tokens → Type 0
+IsLintCommand words = (apex : Name) × (p : Option Params) × AsksToLint words apex p
 
-abbrev pub IsNoCommand : Tokens → Type 0
-IsNoCommand words = (apex : Name) (p : Option Params) → Asks words apex p → ⊥
+abbrev pub IsNoLintCommand : Tokens → Type 0
+IsNoLintCommand words = (apex : Name) (p : Option Params) → AsksToLint words apex p → ⊥
 
 -- the arguments have parameters
 abbrev pub IsHashedCommand : Tokens → Type 0
@@ -37,9 +37,9 @@ IsHashedCommand words = (apex : Name) × (p : Params) × AsksHashed words apex p
 -- an error of hashing only if the arguments have parameters; none is about a line or the records,
 -- which the report covers
 abbrev pub IsRunFault : Tokens → DenialFault → Type 0
-IsRunFault words Usage = IsNoCommand words
-IsRunFault words Read = IsCommand words
+IsRunFault words Usage = IsNoLintCommand words
+IsRunFault words Read = IsLintCommand words
 IsRunFault words (Signing e) = IsHashedCommand words
-IsRunFault words Write = IsCommand words
+IsRunFault words Write = IsLintCommand words
 IsRunFault words OutOfMemory = Unit {0}
 IsRunFault words _ = ⊥

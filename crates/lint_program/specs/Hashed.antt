@@ -9,22 +9,22 @@ use Rattle.domain_groups.specs.declared.error.SigningError.{SigningError, TheVar
 use Rattle.domain_groups.specs.declared.error.SigningError.TheVariants.{SoaRecordCouldNotBeDetermined, OutOfMemory}
 use Rattle.domain_hasher.specs.declared.error.Nsec3HashError.{Nsec3HashError}
 use Rattle.domain_hasher.specs.declared.error.Nsec3HashError.TheVariants as hash_error
-use Rattle.domain_nsec3.specs.{Chain.IsFaultless, View.HasherAnswer}
+use Rattle.domain_nsec3.specs.{Chain.IsHashedFaultless, View.HasherAnswer}
 use Rattle.denial_program.specs.{Answer.{usual_nsec3_config, HasNoNsec3s}, Command.Params, declared.fault.DenialFault.TheVariants.Signing}
 use Rattle.lint_program.specs.declared.outcome.Outcome.{Outcome, TheVariants.Faulty}
 
 -- the zone of the records has no fault of an NSEC3 chain with these parameters
 abbrev pub AreHashable : HasherAnswer → List RawRecord → Name → Params → Type 0
 AreHashable answers given apex p =
-    OfZone raw_view given (λ L. IsFaultless L apex (usual_nsec3_config answers p))
+    OfZone raw_view given (λ L. IsHashedFaultless L apex (usual_nsec3_config answers p))
 
 -- the fault for which `denial nsec3` rejects the records with these parameters: there is none
 -- without parameters, if the records are of several classes, or if they have no fault
-abbrev pub IsNsec3Fault : HasherAnswer → List RawRecord → Name → Option Params
+abbrev pub IsNsec3Rejection : HasherAnswer → List RawRecord → Name → Option Params
     → Option SigningError → Type 0
-IsNsec3Fault answers given apex None fault = fault ≡ None
-IsNsec3Fault answers given apex (Some p) None = AreMixed given ⊎ AreHashable answers given apex p
-IsNsec3Fault answers given apex (Some p) (Some e) = HasNoNsec3s answers given apex p (Signing e)
+IsNsec3Rejection answers given apex None fault = fault ≡ None
+IsNsec3Rejection answers given apex (Some p) None = AreMixed given ⊎ AreHashable answers given apex p
+IsNsec3Rejection answers given apex (Some p) (Some e) = HasNoNsec3s answers given apex p (Signing e)
 
 -- the line about a fault of hashing; equal hashes have lines of their own, and a hasher's error
 -- ends the run

@@ -4,7 +4,7 @@ use Rattle.std.specs.{Prelude.{◌&&◌, List, ◌++◌, Option, Some, None, IsS
 use Rattle.std.specs.{Option.option_or, Ordering.{nat_cmp, ordering_then}, declared.cmp.Ordering.Ordering}
 use Rattle.domain_octets.specs.Octets.{Octets}
 use Rattle.domain_names.specs.Name.{is_at_or_below, lowered, same_name, wire_of, Name, canonical_cmp}
-use Rattle.lint_hints.specs.Shapes.{has_extras, shape_of, IsSuch}
+use Rattle.lint_hints.specs.Shapes.{has_extras, data_shape, IsSuch}
 use Rattle.lint_program.specs.declared.looks.Reason.{Reason, TheVariants.{NoSoa, SecondSoa, StraySoa, OtherClass, OtherTtl, Outside, BesideAlias, OddData}}
 use Rattle.lint_program.specs.declared.{looks.{Reason.TheVariants.Parameters, Look.Look, Placed.Placed}, notes.Note.Note}
 use Rattle.domain_borrowed.specs.Data.{RawRecord}
@@ -118,7 +118,7 @@ Deserves OtherTtl a first r =
 Deserves Outside a first r = is_at_or_below r.owner a ≡ false
 Deserves BesideAlias a first r =
     (stands_beside_alias r.«data».rtype ≡ false) × HasEarlier first (AreInConflict r)
-Deserves OddData a first r = ¬ (IsSuch (shape_of r.«data».rtype) r.«data».octets)
+Deserves OddData a first r = ¬ (IsSuch (data_shape r.«data».rtype) r.«data».octets)
 Deserves Parameters a first r =
     (r.«data».rtype ≡ rtypes.nsec3param) × (has_extras r.«data».octets ≡ true)
 

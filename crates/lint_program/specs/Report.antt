@@ -6,8 +6,8 @@ use Rattle.domain_borrowed.specs.Data.{RawRecord}
 use Rattle.denial_program.specs.{Listing.{IsBad, IsLineRecord, IsSkipped}, Answer.{HasNoNsecs, IsNsecs}, Command.Params, Fault.IsOfRecords}
 use Rattle.denial_program.specs.declared.{answer.Reply.Reply, fault.DenialFault.DenialFault}
 use Rattle.lint_program.specs.{declared.{faults.ZoneFaults.ZoneFaults, outcome.Outcome.{Outcome, TheVariants.{Clean, Warned, Faulty}}}, Alike.alike_text}
-use Rattle.lint_program.specs.{Alike.{AreTold, IsRefusalBy}, Command.Asks, Faults.{are_any, fails, AreFaultless, AreFaultsOf}}
-use Rattle.lint_program.specs.{Hashed.{nsec3_fault_text, outcome_with, IsNsec3Fault}, Notes.{frame, AreNoted, Mark}}
+use Rattle.lint_program.specs.{Alike.{AreTold, IsRefusalBy}, Command.AsksToLint, Faults.{are_any, fails, AreFaultless, AreFaultsOf}}
+use Rattle.lint_program.specs.{Hashed.{nsec3_fault_text, outcome_with, IsNsec3Rejection}, Notes.{frame, AreNoted, Mark}}
 use Rattle.domain_names.specs.Name.{Name, Tokens}
 use Rattle.domain_alike.specs.Alike.{Pair}
 use Rattle.domain_nsec3.specs.View.{HasherAnswer}
@@ -30,10 +30,10 @@ AreLinted n (line ∷ more) bad numbers records =
 
 -- ---- Outcomes by the exit status of the program.
 
-abbrev pub exit_status : Outcome → ℕ
-exit_status Clean = 0
-exit_status Warned = 3
-exit_status Faulty = 1
+abbrev pub lint_status : Outcome → ℕ
+lint_status Clean = 0
+lint_status Warned = 3
+lint_status Faulty = 1
 
 -- ---- The report on an input.
 
@@ -62,8 +62,8 @@ abbrev pub AreFaults : List ℕ → Octets → Type 0
 AreFaults = AreEach IsFault
 
 -- the beginning of a line of the report that is about no bad line
-abbrev pub kind_of : Bool → Octets
-kind_of is_fault = if is_fault then codes "zone: " else codes "warning: "
+abbrev pub mark_prefix : Bool → Octets
+mark_prefix is_fault = if is_fault then codes "zone: " else codes "warning: "
 
 -- the line of the input that it is about
 abbrev pub place_text : Option ℕ → Octets
@@ -75,7 +75,7 @@ place_text (Some n) = codes "line " ++ decimal n ++ codes ": "
 pub record IsLine (is_fault : Bool) (mark : Mark) (text : Octets) : Type 0 where
   pub told : Octets
   pub printed : All IsPrinted told
-  pub is : text ≡ kind_of is_fault ++ place_text mark.place ++ (frame mark.reason).0 ++ told
+  pub is : text ≡ mark_prefix is_fault ++ place_text mark.place ++ (frame mark.reason).0 ++ told
       ++ (frame mark.reason).1 ++ codes "\n"
 
 -- the line of a note: a fault of the zone if the reason is one of its faults, and else a warning
@@ -115,7 +115,7 @@ plain_outcome (n ∷ more) faults marks = Faulty
 -- the report on these lines: each bad line, and no other, by its number; then the notes that the
 -- records of the others deserve, and nothing else; and with parameters a fault of hashing for which
 -- `denial nsec3` rejects the records, and each pair of names that have the same hash
-pub record IsTold (answers : HasherAnswer) (lines : List Octets) (apex : Name) (p : Option Params)
+pub record IsReport (answers : HasherAnswer) (lines : List Octets) (apex : Name) (p : Option Params)
     (outcome : Outcome) (text : Octets) : Type 0 where
   pub bad : List ℕ
   pub numbers : List ℕ
@@ -132,7 +132,7 @@ pub record IsTold (answers : HasherAnswer) (lines : List Octets) (apex : Name) (
   pub deserved : AreNoted (length bad == 0) apex records numbers marks
   pub found : AreFaultsOf records apex zone_faults
   pub noted : AreNotes zone_faults marks notes
-  pub hashed : IsNsec3Fault answers records apex p nsec3_fault
+  pub hashed : IsNsec3Rejection answers records apex p nsec3_fault
   pub alike : AreTold answers records apex p pairs
   pub is : text ≡ ((faults ++ notes) ++ nsec3_fault_text nsec3_fault) ++ alike_text pairs
   pub known : IsOutcome bad records apex marks plain
@@ -140,11 +140,11 @@ pub record IsTold (answers : HasherAnswer) (lines : List Octets) (apex : Name) (
   pub tells : outcome ≡ outcome_with pairs nsec3_fault plain
 
 -- the arguments have parameters, with which the hasher fails for a name of the records
-pub record IsRefused (answers : HasherAnswer) (words : Tokens) (lines : List Octets)
+pub record IsLintRefused (answers : HasherAnswer) (words : Tokens) (lines : List Octets)
     (error : SigningError) : Type 0 where
   pub apex : Name
   pub p : Option Params
-  pub asks : Asks words apex p
+  pub asks : AsksToLint words apex p
   pub bad : List ℕ
   pub numbers : List ℕ
   pub records : List RawRecord

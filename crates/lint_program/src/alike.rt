@@ -1,6 +1,6 @@
 //! Names of a zone that have the same hash.
 ghost use Rattle.std.specs.Prelude.{◌≡◌, ◌⊎◌, ℕ, IfErr, IfOk, map};
-ghost use Rattle.domain_alike.specs.Alike.{pair_of, AreAlike, IsFirstRefusal};
+ghost use Rattle.domain_alike.specs.Alike.{pair_of, AreAlike, IsFirstChainRefusal};
 ghost use Rattle.domain_borrowed.specs.Data.{zone_of_raw};
 ghost use Rattle.domain_hasher.specs.declared.error.Nsec3HashError.TheVariants as hash_error;
 ghost use Rattle.domain_nsec3.specs.View.{config_of};
@@ -38,7 +38,7 @@ pub fn alike_of<'a, H: Nsec3Hasher>(
         (H.answer hasher.now) config.now) (map pair_of pairs.items)) }
     ensures err { IfErr result (λ e. (e ≡ Memory) ⊎ ((n : ℕ)
         × (e ≡ Signing (signing_error.Nsec3HashingError (hash_error.Hasher n)))
-        × IsFirstRefusal (zone_of_raw sorted.now) apex.now
+        × IsFirstChainRefusal (zone_of_raw sorted.now) apex.now
         (config_of (H.answer hasher.now) config.now) n)) }
 {
     match alike_names(alloc, apex, sorted, config, hasher) {

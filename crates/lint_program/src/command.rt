@@ -2,7 +2,7 @@
 ghost use Rattle.std.specs.Prelude.{◌≡◌, ◌⊎◌, IfErr, IfOk, map, string_bytes};
 ghost use Rattle.domain_names.specs.Text.{IsNoName, NameText};
 ghost use Rattle.denial_program.specs.declared.fault.DenialFault.TheVariants.{OutOfMemory};
-ghost use Rattle.lint_program.specs.Command.{Asks, IsNoCommand};
+ghost use Rattle.lint_program.specs.Command.{AsksToLint, IsNoLintCommand};
 
 use bumpalo::Bump;
 use denial_program::{DenialFault, Nsec3Params, name_of, parameters_of};
@@ -45,9 +45,9 @@ pub fn asked_of<'a>(
     words: &[String],
 ) -> Result<Asked<'a>, DenialFault>
     ensures ok { IfOk result (λ asked.
-        Asks (map string_bytes words.now) asked.apex asked.parameters) }
+        AsksToLint (map string_bytes words.now) asked.apex asked.parameters) }
     ensures err { IfErr result (λ e.
-        ((e ≡ DenialFault.Usage) × IsNoCommand (map string_bytes words.now))
+        ((e ≡ DenialFault.Usage) × IsNoLintCommand (map string_bytes words.now))
         ⊎ (e ≡ OutOfMemory)) }
 {
     match words {

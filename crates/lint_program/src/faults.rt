@@ -3,7 +3,7 @@ ghost use Rattle.std.specs.Prelude.{◌≡◌, false, true, List, IfErr, IfOk};
 ghost use Rattle.domain_borrowed.specs.Data.{zone_of_raw, RawRecord};
 ghost use Rattle.domain_records.specs.Order.{IsInOrder, IsOneClass};
 ghost use Rattle.domain_zone.specs.Zone.{covered_names, has_unequal_ttls};
-ghost use Rattle.denial_program.specs.Answer.{Sorts};
+ghost use Rattle.denial_program.specs.Answer.{SortsRaw};
 ghost use Rattle.denial_program.specs.declared.fault.DenialFault.TheVariants.{OutOfMemory as Memory};
 ghost use Rattle.lint_program.specs.Faults.{are_any, fails, AreFaultsOf};
 
@@ -100,7 +100,7 @@ pub fn faults_of<'a>(
 ) -> Result<ZoneFaults, DenialFault>
     requires one_class { IsOneClass sorted.now }
     requires in_order { IsInOrder (λ n. n) (λ d. d.rtype) sorted.now }
-    ensures ok { IfOk result (λ faults. (given : List RawRecord) → Sorts given sorted.now
+    ensures ok { IfOk result (λ faults. (given : List RawRecord) → SortsRaw given sorted.now
         → AreFaultsOf given apex.now faults) }
     ensures err { IfErr result (λ e. e ≡ Memory) }
 {

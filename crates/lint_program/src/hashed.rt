@@ -5,10 +5,10 @@ ghost use Rattle.domain_borrowed.specs.Data.{RawRecord};
 ghost use Rattle.domain_hasher.specs.declared.error.Nsec3HashError.TheVariants as hash_error;
 ghost use Rattle.domain_records.specs.Order.{IsInOrder, IsOneClass};
 ghost use Rattle.domain_groups.specs.declared.error.SigningError.TheVariants as signing_error;
-ghost use Rattle.denial_program.specs.Answer.{Sorts};
+ghost use Rattle.denial_program.specs.Answer.{SortsRaw};
 ghost use Rattle.denial_program.specs.declared.fault.DenialFault.TheVariants.{OutOfMemory as Memory, Signing};
 ghost use Rattle.lint_program.specs.Alike.{AreTold, IsRefusalBy};
-ghost use Rattle.lint_program.specs.Hashed.{hash_fault_line, nsec3_fault_text, IsNsec3Fault};
+ghost use Rattle.lint_program.specs.Hashed.{hash_fault_line, nsec3_fault_text, IsNsec3Rejection};
 
 use crate::alike::alike_of;
 use denial_program::{DenialFault, Nsec3Params, ZoneOctets};
@@ -54,14 +54,14 @@ fn hashed_with<'a, H: Nsec3Hasher>(
 ) -> Result<Hashed<'a>, DenialFault>
     requires one_class { IsOneClass sorted.now }
     requires in_order { IsInOrder (λ n. n) (λ d. d.rtype) sorted.now }
-    ensures fault { IfOk result (λ hashed. (given : List RawRecord) → Sorts given sorted.now
-        → IsNsec3Fault (H.answer hasher.now) given apex.now (Some parameters) hashed.fault) }
-    ensures alike { IfOk result (λ hashed. (given : List RawRecord) → Sorts given sorted.now
+    ensures fault { IfOk result (λ hashed. (given : List RawRecord) → SortsRaw given sorted.now
+        → IsNsec3Rejection (H.answer hasher.now) given apex.now (Some parameters) hashed.fault) }
+    ensures alike { IfOk result (λ hashed. (given : List RawRecord) → SortsRaw given sorted.now
         → AreTold (H.answer hasher.now) given apex.now (Some parameters)
         (map pair_of hashed.pairs.items)) }
     ensures err { IfErr result (λ e. (e ≡ Memory) ⊎ ((n : ℕ)
         × (e ≡ Signing (signing_error.Nsec3HashingError (hash_error.Hasher n)))
-        × ((given : List RawRecord) → Sorts given sorted.now
+        × ((given : List RawRecord) → SortsRaw given sorted.now
         → IsRefusalBy (H.answer hasher.now) given apex.now (Some parameters) n))) }
 {
     let config: GenerateNsec3Config<ZoneOctets, InPlaceSorter> = GenerateNsec3Config::new(
@@ -97,14 +97,14 @@ pub fn hashed_of<'a, H: Nsec3Hasher>(
 ) -> Result<Hashed<'a>, DenialFault>
     requires one_class { IsOneClass sorted.now }
     requires in_order { IsInOrder (λ n. n) (λ d. d.rtype) sorted.now }
-    ensures fault { IfOk result (λ hashed. (given : List RawRecord) → Sorts given sorted.now
-        → IsNsec3Fault (H.answer hasher.now) given apex.now parameters hashed.fault) }
-    ensures alike { IfOk result (λ hashed. (given : List RawRecord) → Sorts given sorted.now
+    ensures fault { IfOk result (λ hashed. (given : List RawRecord) → SortsRaw given sorted.now
+        → IsNsec3Rejection (H.answer hasher.now) given apex.now parameters hashed.fault) }
+    ensures alike { IfOk result (λ hashed. (given : List RawRecord) → SortsRaw given sorted.now
         → AreTold (H.answer hasher.now) given apex.now parameters
         (map pair_of hashed.pairs.items)) }
     ensures err { IfErr result (λ e. (e ≡ Memory) ⊎ ((n : ℕ)
         × (e ≡ Signing (signing_error.Nsec3HashingError (hash_error.Hasher n)))
-        × ((given : List RawRecord) → Sorts given sorted.now
+        × ((given : List RawRecord) → SortsRaw given sorted.now
         → IsRefusalBy (H.answer hasher.now) given apex.now parameters n))) }
 {
     match parameters {

@@ -11,7 +11,7 @@ ghost use Rattle.domain_nsec3.specs.View.{HasherAnswer};
 ghost use Rattle.denial_program.specs.{Answer.HasNoNsec3s, Command.Params, Listing.{Give, IsFirstBad}};
 ghost use Rattle.denial_program.specs.declared.fault.DenialFault.TheVariants.{Signing};
 ghost use Rattle.lint_program.specs.{Alike.AreTold, Faults.{fails, AreFaultless, AreFaultsOf}};
-ghost use Rattle.lint_program.specs.Hashed.{nsec3_fault_text, AreHashable, IsNsec3Fault};
+ghost use Rattle.lint_program.specs.Hashed.{nsec3_fault_text, AreHashable, IsNsec3Rejection};
 ghost use Rattle.lint_program.specs.{Report.{AreLinted, AreRefused}, Notes.{earlier, look_of, AreNoted, Deserves}};
 ghost use Rattle.lint_program.specs.Notes.{Found, HasMark, IsDeserved, Mark};
 ghost use Rattle.lint_program.specs.declared.{faults.ZoneFaults.ZoneFaults, looks.{Look.Look, Reason.Reason}};
@@ -67,10 +67,10 @@ pub fn zone_lines_are_faults()
 pub fn hashing_lines_are_faults()
     ensures each { (answers : HasherAnswer) (given : List RawRecord) (a : Name) (p : Params)
         (fault : Option SigningError) (e : SigningError)
-        → IsNsec3Fault answers given a (Some p) fault
+        → IsNsec3Rejection answers given a (Some p) fault
         → HasNoNsec3s answers given a p (Signing e) → fault ≡ Some e }
     ensures all { (answers : HasherAnswer) (given : List RawRecord) (a : Name) (p : Params)
-        (fault : Option SigningError) → IsNsec3Fault answers given a (Some p) fault
+        (fault : Option SigningError) → IsNsec3Rejection answers given a (Some p) fault
         → AreTold answers given a (Some p) [] → AreFaultless given a
         → nsec3_fault_text fault ≡ [] → AreHashable answers given a p
         ⊎ ((n : ℕ) × HasNoNsec3s answers given a p (Signing (Nsec3HashingError (Hasher n)))) }

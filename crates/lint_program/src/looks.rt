@@ -7,7 +7,7 @@ ghost use Rattle.lint_program.specs.Notes.{AreDuplicates, AreInConflict};
 use crate::reading::Place;
 use domain_base::{Name, ParsedName, Rtype, ToName};
 use domain_borrowed::BorrowedRecord;
-use lint_hints::{has_extras, is_such, shape_of};
+use lint_hints::{data_shape, has_extras, is_such};
 
 /// The number of the type KEY, which has no constant of its own (RFC 2535, section 3).
 const KEY: u16 = 25;
@@ -171,7 +171,7 @@ pub fn reason_of(
         }
         Look::Data => {
             let octets = borrowed.data().octets();
-            if !is_such(shape_of(rtype), octets) {
+            if !is_such(data_shape(rtype), octets) {
                 return Some(Reason::OddData);
             }
             if rtype == Rtype::NSEC3PARAM && has_extras(octets) {

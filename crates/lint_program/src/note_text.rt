@@ -4,7 +4,7 @@ ghost use Rattle.lint_program.specs.Notes.{frame};
 
 use crate::looks::{Placed, Reason};
 use domain_base::{ParsedName, ToName};
-use lint_hints::shape_of;
+use lint_hints::data_shape;
 use std::alloc::{AllocError, Global};
 
 impl Reason {
@@ -67,7 +67,7 @@ pub fn text_of(
             "the owner has no dot at its end, so it is {name}, outside of the zone {apex}"
         ),
         Reason::BesideAlias => format!(in alloc; "{rtype} and the record of line {line}"),
-        Reason::OddData => format!(in alloc; "{rtype}: expected {}", shape_of(rtype).text()),
+        Reason::OddData => format!(in alloc; "{rtype}: expected {}", data_shape(rtype).text()),
         Reason::Parameters => format!(in alloc; "RFC 9276, section 3.1,"),
     }
 }

@@ -10,9 +10,9 @@ ghost use Rattle.domain_groups.specs.declared.error.SigningError.{SigningError};
 ghost use Rattle.domain_groups.specs.declared.error.SigningError.TheVariants as signing_error;
 ghost use Rattle.denial_program.specs.{Command.Params, Fault.{IsBeforeOutput, IsReadToEnd}};
 ghost use Rattle.denial_program.specs.declared.fault.DenialFault.TheVariants.{OutOfMemory as Memory, Signing};
-ghost use Rattle.lint_program.specs.{Alike.{AreTold, IsRefusalBy}, Command.{Asks, IsCommand, IsRunFault}};
-ghost use Rattle.lint_program.specs.{Faults.AreFaultsOf, Hashed.{outcome_with, IsNsec3Fault}};
-ghost use Rattle.lint_program.specs.{Notes.mark_of, Report.{plain_outcome, IsRefused, IsTold}};
+ghost use Rattle.lint_program.specs.{Alike.{AreTold, IsRefusalBy}, Command.{AsksToLint, IsLintCommand, IsRunFault}};
+ghost use Rattle.lint_program.specs.{Faults.AreFaultsOf, Hashed.{outcome_with, IsNsec3Rejection}};
+ghost use Rattle.lint_program.specs.{Notes.mark_of, Report.{plain_outcome, IsLintRefused, IsReport}};
 
 use crate::command::{Asked, asked_of};
 use crate::faults::{ZoneFaults, faults_of};
@@ -70,7 +70,7 @@ fn judged<'a, H: Nsec3Hasher>(
     hasher: &H,
 ) -> Result<(ZoneFaults, Hashed<'a>), DenialFault>
     ensures faults { IfOk result (λ told. AreFaultsOf records.entry.items apex.now told.0) }
-    ensures fault { IfOk result (λ told. IsNsec3Fault (H.answer hasher.now) records.entry.items
+    ensures fault { IfOk result (λ told. IsNsec3Rejection (H.answer hasher.now) records.entry.items
         apex.now parameters told.1.fault) }
     ensures alike { IfOk result (λ told. AreTold (H.answer hasher.now) records.entry.items apex.now
         parameters (map pair_of told.1.pairs.items)) }
@@ -122,19 +122,19 @@ pub fn run_lint<R: BufRead, W: Write, H: Nsec3Hasher>(
     // rejects them, if there is one, and each name of the chain that has the hash of an earlier
     // one, and no other.
     ensures ok { IfOk result (λ outcome. IfSome (R.remaining input.old) (λ bytes. (apex : Name)
-        × (p : Option Params) × (text : Octets) × Asks (map string_bytes words.now) apex p
-        × IsTold (H.answer hasher.now) (lines bytes) apex p outcome text
+        × (p : Option Params) × (text : Octets) × AsksToLint (map string_bytes words.now) apex p
+        × IsReport (H.answer hasher.now) (lines bytes) apex p outcome text
         × Appends (W.contents output.old) (W.contents output.new) text)) }
 
     // `Usage` if and only if the arguments are no command, unless memory runs out.
-    ensures usage { MatchResult result (λ _. IsCommand (map string_bytes words.now))
+    ensures usage { MatchResult result (λ _. IsLintCommand (map string_bytes words.now))
         (IsRunFault (map string_bytes words.now)) }
 
     // `Signing` only if the arguments have parameters, and the hasher fails for a name of the chain
     // and for none before it.
     ensures refused { (e : SigningError) → IsErrOf result (DenialFault.Signing e)
         → IfSome (R.remaining input.old) (λ bytes.
-        IsRefused (H.answer hasher.now) (map string_bytes words.now) (lines bytes) e) }
+        IsLintRefused (H.answer hasher.now) (map string_bytes words.now) (lines bytes) e) }
 
     // All of the input has been read.
     ensures end { OnOk result (IsReadToEnd (R.remaining input.old) (R.remaining input.new)) }

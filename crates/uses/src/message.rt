@@ -1,6 +1,6 @@
 //! Reads records from a message, and from a line.
 ghost use Rattle.std.specs.Prelude.{IfOk};
-ghost use Rattle.domain_dnssec.specs.{Entry.LineText, Record.RecordAt};
+ghost use Rattle.domain_dnssec.specs.{Entry.EntryLineText, Record.RecordAt};
 
 use domain_dnssec::{Error, LineError, MessageError, OwnedRecord, read_record, scan_record};
 use std::alloc::Global;
@@ -38,7 +38,7 @@ fn read(alloc: Global, message: &[u8], at: usize) -> Result<(OwnedRecord, usize)
 
 /// Returns the record that a line spells.
 fn scan(alloc: Global, line: &str) -> Result<OwnedRecord, LineError>
-    ensures ok { IfOk result (LineText (λ o. o.items) (λ n. n) line.now) }
+    ensures ok { IfOk result (EntryLineText (λ o. o.items) (λ n. n) line.now) }
 {
     scan_record(alloc, line)
 }

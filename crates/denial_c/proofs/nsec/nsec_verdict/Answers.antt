@@ -1,5 +1,5 @@
 use Rattle.std.proofs.{Common.{arith, [], Err, sym, subst}, lemmas.{Grind.common_steps, Result.err_from_is_err_and}}
-use Rattle.denial_c.specs.Result.{AreNsecs, IsNsecResult}
+use Rattle.denial_c.specs.Result.{EncodeNsecs, IsNsecResult}
 use Rattle.denial_c.proofs.nsec.nsec_verdict.Goals as goal
 
 pub returns : goal.returns
@@ -12,5 +12,5 @@ returns-in_err-hand_in c =
     (sym c.in_err-hand_in.ensures.err.0) (
       (c.in_ok-apex.apex, c.in_ok-apex.ensures.ok),
       (c.in_ok-name.name, c.in_ok-name.ensures.ok),
-      λ links are. c.in_err-hand_in.ensures.err.1 links (subst (λ n. AreNsecs n c.args.records.now links) (sym c.from_int-2.ensures) are),
+      λ links are. c.in_err-hand_in.ensures.err.1 links (subst (λ n. EncodeNsecs n c.args.records.now links) (sym c.from_int-2.ensures) are),
     ))

@@ -1,5 +1,5 @@
 use Rattle.std.proofs.Common.{sym, subst}
-use Rattle.domain_borrowed.specs.Data.{data_cmp}
+use Rattle.domain_borrowed.specs.Data.{raw_cmp}
 use Rattle.domain_groups.proofs.InOrderLemmas.{in_order_from_sorted}
 use Rattle.denial_c.specs.Chains.{AreSorted}
 use Rattle.denial_c.proofs.zone.sorted_zone.Goals as goal
@@ -11,5 +11,5 @@ returns-in-Ok-clause-ok c =
       are = c.in_ok-records.ensures;
       sorts = c.in-Ok.ensures.sorts;
       one_class = c.in-Ok.ensures.one_class;
-      in_order = in_order_from_sorted _ (λ d. d.rtype) data_cmp _ c.into_inner.ensures.sorted c.in-Ok.ensures.one_class;
+      in_order = in_order_from_sorted _ (λ d. d.rtype) raw_cmp _ c.into_inner.ensures.sorted c.in-Ok.ensures.one_class;
     })

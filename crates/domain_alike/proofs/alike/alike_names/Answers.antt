@@ -2,7 +2,7 @@ use Rattle.std.proofs.{Common.{Ok, ◌≡◌, ◌&&◌, ◌++◌, ap, inl, inr, 
 use Rattle.domain_octets.proofs.StdLemmas.{if_err_of}
 use Rattle.domain_nsec3.specs.{Steps.IsListOf, Chain.{hash_name, is_chain_name}, View.config_of}
 use Rattle.domain_borrowed.specs.Data.{zone_of_raw}
-use Rattle.domain_alike.{specs.Alike.{pair_of, IsFirstRefusal, IsRefusedBy, pair_with}, proofs.AlikeLemmas.{alike_are, first_refusal, pairs_more}}
+use Rattle.domain_alike.{specs.Alike.{pair_of, IsFirstChainRefusal, IsRefusedBy, pair_with}, proofs.AlikeLemmas.{alike_are, first_refusal, pairs_more}}
 use Rattle.domain_alike.proofs.alike.alike_names.{Given.Over, Goals.{After-deref-name-items, in-Some+in_ok-later+in_ok-push, in_default}}
 use Rattle.domain_alike.proofs.alike.alike_names.Goals as goal
 
@@ -39,7 +39,7 @@ returns-in_err-hash-clause-err g c =
     let config = config_of (g.H.Nsec3Hasher.answer c.args.hasher.now) c.args.config.now in
     let names = c.deref-name-items.result.now in
     let list = chain_list g (goal.at.returns-in_err-hash-clause-err g c).After-deref-name-items in
-    if_err_of (IsRefusedBy (IsFirstRefusal (zone_of_raw c.args.sorted.now) c.args.apex.now config)) c.in_err-hash.field-0.0
+    if_err_of (IsRefusedBy (IsFirstChainRefusal (zone_of_raw c.args.sorted.now) c.args.apex.now config)) c.in_err-hash.field-0.0
     c.from_residual-in_err-hash.result c.from_residual-in_err-hash.ensures.1
     (elim c.in_err-hash.ensures.err [
       | inl none ↦ inl none.0

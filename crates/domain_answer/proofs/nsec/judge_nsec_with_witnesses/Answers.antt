@@ -4,7 +4,7 @@ use Rattle.domain_names.specs.Name.{is_at_or_below}
 use Rattle.domain_nsec.specs.Chain.{links_of, Link}
 use Rattle.domain_answer.proofs.{ChainLemmas.{found_wild, given_is}, HashedAnswerLemmas.judged, nsec.judge_nsec_with_witnesses.Given.Over}
 use Rattle.domain_answer.proofs.nsec.judge_nsec_with_witnesses.Goals.{After-name_told}
-use Rattle.domain_answer.specs.Reading.{name_answer, reading, usable, wildcard_answer, IsNameAnswer}
+use Rattle.domain_answer.specs.Reading.{name_answer, answer_of_list, usable, wildcard_answer, IsNameAnswer}
 use Rattle.domain_answer.proofs.nsec.judge_nsec_with_witnesses.Goals as goal
 
 low : (g : Over) (c : After-name_told g) → is_at_or_below (g.M.ToName.labels c.args.name.now) (g.A.ToName.labels c.args.apex.now) ≡ true
@@ -16,7 +16,7 @@ counted g c = usable (g.A.ToName.labels c.args.apex.now) (links_of g.N.ToName.la
 
 -- what was found for the name says what the records say of it
 named : (g : Over) (c : After-name_told g) → IsNameAnswer
-    (reading (g.A.ToName.labels c.args.apex.now) (counted g c) (g.M.ToName.labels c.args.name.now) c.args.rtype)
+    (answer_of_list (g.A.ToName.labels c.args.apex.now) (counted g c) (g.M.ToName.labels c.args.name.now) c.args.rtype)
     (g.A.ToName.labels c.args.apex.now) (counted g c) (g.M.ToName.labels c.args.name.now) c.args.rtype
     c.name_told.result
 named g c = c.name_told.ensures _ c.find_nsec-of_name.ensures.found

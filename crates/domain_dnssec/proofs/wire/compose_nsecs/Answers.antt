@@ -1,5 +1,5 @@
 use Rattle.std.proofs.{Common.{◌++◌, ◌∙◌, arith}, lemmas.Result.err_from_is_err_and}
-use Rattle.domain_borrowed.specs.Data.{nsec_record, record_octets}
+use Rattle.domain_borrowed.specs.Data.{nsec_record, raw_record_octets}
 use Rattle.domain_nsec.specs.Chain.{Link, as_link}
 use Rattle.domain_dnssec.proofs.WireLemmas.{long_record, onward}
 use Rattle.domain_dnssec.proofs.wire.compose_nsecs.Goals as goal
@@ -13,6 +13,6 @@ returns-in_err-add_nsec-clause-err g c =
 pub loop-place-preserved : goal.loop-place-preserved
 loop-place-preserved g c =
     let link = as_link (λ n. n) c.in-Some.nsec in
-    let octets : Link → _ = λ k. record_octets (nsec_record k) in
+    let octets : Link → _ = λ k. raw_record_octets (nsec_record k) in
     c.in_ok-add_nsec.ensures.ok ∙ (λ i. c.loop-place.invariant i ++ octets (c.in-Some.ensures.some link i))
     ∙ onward octets _ _ _ link (omega arith)

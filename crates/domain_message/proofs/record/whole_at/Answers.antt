@@ -1,12 +1,12 @@
 use Rattle.std.proofs.{Common.{refl, ◌∙◌, ◌≡◌, ◌≤◌, ◌+◌, ◌-◌, ◌++◌, length, take, drop, arith, ap, subst, length-append}, lemmas.Grind.common_steps}
 use Rattle.domain_octets.proofs.StdLemmas.{if_err_of}
-use Rattle.domain_message.specs.{Data.OctetsAt, Record.{RefusesData, in_part, other_end, too_long, in_octets}}
+use Rattle.domain_message.specs.{Data.OctetsAt, Record.{RefusesRecordData, in_part, other_end, too_long, in_octets}}
 use Rattle.domain_message.proofs.RecordLemmas.{copy_refused, copy_placed, placed_parts, placed_in_full, taken_fits}
 use Rattle.domain_message.proofs.record.whole_at.Goals as goal
 
 pub returns-in_err-end-clause-err : goal.returns-in_err-end-clause-err
 returns-in_err-end-clause-err g c =
-    if_err_of (RefusesData g.O.Builder.OctetsBuilder.limit c.args.message.now c.args.rtype c.args.place c.args.count) _ _ c.from_residual.ensures.1
+    if_err_of (RefusesRecordData g.O.Builder.OctetsBuilder.limit c.args.message.now c.args.rtype c.args.place c.args.count) _ _ c.from_residual.ensures.1
     (in_part c.requires.inside c.args.parts.now c.requires.some c.in_err-end.field-0.0 c.in_err-end.ensures.err refl)
 
 pub returns-then-not-may_end-clause-err : goal.returns-then-not-may_end-clause-err
@@ -64,7 +64,7 @@ returns-in_err-joined-clause-err g c =
     c.requires.some ok.1 (c.may_end.ensures.value.0 c.if-not-may_end.false) (ok.0 ++ rest) refl in
     let fits : length (ok.0 ++ rest) ≤ 65535 =
     omega (arith, ap length front_is, length-append ok.0 rest, c.if-front-rest-gt-MAX_DATA_LEN.false) in
-    if_err_of (RefusesData g.O.Builder.OctetsBuilder.limit c.args.message.now c.args.rtype c.args.place c.args.count) _ _
+    if_err_of (RefusesRecordData g.O.Builder.OctetsBuilder.limit c.args.message.now c.args.rtype c.args.place c.args.count) _ _
     c.from_residual-in_err-joined.ensures.1 (in_octets c.requires.inside _ placed fits tt)
 
 pub returns-clause-err : goal.returns-clause-err

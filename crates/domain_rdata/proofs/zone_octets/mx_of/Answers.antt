@@ -1,7 +1,7 @@
 use Rattle.std.proofs.Common.{None}
-use Rattle.domain_plain.specs.Plain.{mx}
+use Rattle.domain_plain.specs.Plain.{mx_layout}
 use Rattle.domain_rdata.{specs.Zone.plain, proofs.ScanLemmas.not_data}
 use Rattle.domain_rdata.proofs.zone_octets.mx_of.Goals as goal
 
 pub returns-in_err-data : goal.returns-in_err-data
-returns-in_err-data g c = not_data (plain mx) None _ _ _ c.from_residual.ensures.1 c.in_err-data.ensures.err
+returns-in_err-data g c = not_data (plain mx_layout) None _ _ _ c.from_residual.ensures.1 c.in_err-data.ensures.err

@@ -1,7 +1,7 @@
 use Rattle.std.proofs.Common.{None}
-use Rattle.domain_plain.specs.Plain.{soa}
+use Rattle.domain_plain.specs.Plain.{soa_layout}
 use Rattle.domain_rdata.{specs.Zone.plain, proofs.ScanLemmas.not_data}
 use Rattle.domain_rdata.proofs.zone_octets.soa_of.Goals as goal
 
 pub returns-in_err-data : goal.returns-in_err-data
-returns-in_err-data g c = not_data (plain soa) None _ _ _ c.from_residual.ensures.1 c.in_err-data.ensures.err
+returns-in_err-data g c = not_data (plain soa_layout) None _ _ _ c.from_residual.ensures.1 c.in_err-data.ensures.err

@@ -1,5 +1,5 @@
 use Rattle.std.{proofs.Common.{◌≡◌, ◌+◌, drop}, specs.List.prefix_len}
-use Rattle.domain_zonefile.specs.Lexemes.{is_blank}
+use Rattle.domain_octets.specs.Text.{is_blank}
 use Rattle.domain_zonefile.proofs.lexeme.blank_len.Given as goal
 
 -- the octets so far pass

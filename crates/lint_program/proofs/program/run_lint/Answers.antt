@@ -8,14 +8,14 @@ use Rattle.domain_hasher.specs.declared.error.Nsec3HashError.TheVariants as hash
 use Rattle.domain_groups.specs.declared.error.SigningError.TheVariants as signing_error
 use Rattle.denial_program.{specs.{Command.Params, declared.fault.DenialFault.TheVariants.{OutOfMemory as Memory, Signing}}, proofs.LineLemmas.known_so}
 use Rattle.domain_alike.specs.Alike.{pair_of}
-use Rattle.lint_program.specs.{Alike.{alike_text, IsRefusalBy}, Command.{Asks, IsHashedCommand}, Hashed.{nsec3_fault_text, outcome_with}, Notes.mark_of}
-use Rattle.lint_program.{specs.Report.{plain_outcome, IsRefused, IsTold}, proofs.FaultLemmas.plain_known}
+use Rattle.lint_program.specs.{Alike.{alike_text, IsRefusalBy}, Command.{AsksToLint, IsHashedCommand}, Hashed.{nsec3_fault_text, outcome_with}, Notes.mark_of}
+use Rattle.lint_program.{specs.Report.{plain_outcome, IsLintRefused, IsReport}, proofs.FaultLemmas.plain_known}
 use Rattle.lint_program.specs.declared.reading.{BadLine.BadLine, Place.Place}
 use Rattle.lint_program.proofs.program.run_lint.Goals as goal
 
 -- where a hash is refused the words ask for parameters
 hashed_command : (answers : HasherAnswer) (words : Tokens) (given : List RawRecord) (apex : Name) (o : Option Params) (n : ℕ)
-    → Asks words apex o → IsRefusalBy answers given apex o n → IsHashedCommand words
+    → AsksToLint words apex o → IsRefusalBy answers given apex o n → IsHashedCommand words
 hashed_command answers words given apex o n asks refusal = grind (arith, common_steps)
 
 pub returns-in-Ok-clause-ok : goal.returns-in-Ok-clause-ok
@@ -29,8 +29,8 @@ returns-in-Ok-clause-ok g c =
     let hashed = c.in_ok-faults.hashed in
     let pairs = map pair_of hashed.pairs.items in
     known_so _
-    (λ bytes. (x : Name) × (o : Option Params) × (text : Octets) × Asks (map string_bytes c.args.words.now) x o
-    × IsTold answers (lines bytes) x o c.outcome_with.result text
+    (λ bytes. (x : Name) × (o : Option Params) × (text : Octets) × AsksToLint (map string_bytes c.args.words.now) x o
+    × IsReport answers (lines bytes) x o c.outcome_with.result text
     × Appends (g.W.Write.contents c.args.output.now) (g.W.Write.contents c.write_report.new.output) text) _
     (λ bytes linted. (
       asked.apex,
@@ -77,7 +77,7 @@ returns-in_err-faults-clause-refused g c = λ error is.
       | inl none ↦ absurd (let other : Signing error ≡ Memory = same ∙ none in cc)
       | inr r ↦
           let told : Signing error ≡ Signing (signing_error.Nsec3HashingError (hash_error.Hasher r.0)) = same ∙ r.1 in
-          known_so _ (λ bytes. IsRefused (g.H.Nsec3Hasher.answer c.args.hasher.now) (map string_bytes c.args.words.now) (lines bytes) error) _
+          known_so _ (λ bytes. IsLintRefused (g.H.Nsec3Hasher.answer c.args.hasher.now) (map string_bytes c.args.words.now) (lines bytes) error) _
           (λ bytes linted. record {
             apex = c.in_ok-apex.field-0.apex;
             p = c.in_ok-apex.field-0.parameters;

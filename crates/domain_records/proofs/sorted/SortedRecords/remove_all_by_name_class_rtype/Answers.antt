@@ -1,18 +1,18 @@
 use Rattle.std.proofs.{Common.{sym, not, rules}, lemmas.{Fn.filter_same, List.Kept.IsStrictlySortedBy-filter}}
 use Rattle.domain_record.specs.declared.record.Record.{Record}
-use Rattle.domain_records.{specs.Sorted.matches, proofs.LookupLemmas.{none_left, first_left}}
+use Rattle.domain_records.{specs.Sorted.record_matches, proofs.LookupLemmas.{none_left, first_left}}
 use Rattle.domain_records.proofs.sorted.SortedRecords.remove_all_by_name_class_rtype.Goals as goal
 
 pub invariant_of-self : goal.invariant_of-self
 invariant_of-self g c =
     let p = λ (r : Record g.row.N.Denot g.row.D.Denot). not
-    (matches g.N.ToName.labels g.D.RecordData.rtype (g.N.ToName.labels c.args.name.now) c.args.class c.args.rtype r) in
+    (record_matches g.N.ToName.labels g.D.RecordData.rtype (g.N.ToName.labels c.args.name.now) c.args.class c.args.rtype r) in
     rw (filter_same _ p _ (λ x b f' k. search rules) _ _ c.retain.ensures.filtered) (IsStrictlySortedBy-filter _ p _ c.self.invariant)
 
 pub returns-in-Some-clause-kept : goal.returns-in-Some-clause-kept
 returns-in-Some-clause-kept g c =
     let p = λ (r : Record g.row.N.Denot g.row.D.Denot). not
-    (matches g.N.ToName.labels g.D.RecordData.rtype (g.N.ToName.labels c.args.name.now) c.args.class c.args.rtype r) in
+    (record_matches g.N.ToName.labels g.D.RecordData.rtype (g.N.ToName.labels c.args.name.now) c.args.class c.args.rtype r) in
     rw (← c.self.view_is) (filter_same _ p _ (λ x b f' k. search rules) _ _ c.retain.ensures.filtered)
 
 pub returns-in-Some-clause-found : goal.returns-in-Some-clause-found
