@@ -13,6 +13,7 @@ PLACES = {
     "x86_64-linux/denial": "usr/libexec/denial/denial",
     "x86_64-linux/denial_judge": "usr/libexec/denial/denial_judge",
     "x86_64-linux/denial_lint": "usr/libexec/denial/denial_lint",
+    "x86_64-linux/denial_zone": "usr/libexec/denial/denial_zone",
     "x86_64-linux/libdenial.a": "usr/lib/x86_64-linux-gnu/libdenial.a",
     "x86_64-linux/libdenial.so": "usr/lib/x86_64-linux-gnu/libdenial.so.0",
 }

@@ -1,6 +1,12 @@
 pub mod FieldLemmas
+pub mod NameLemmas
 pub mod DataLemmas
 pub mod TableLemmas
 pub mod SpellLemmas
 pub mod ReadLemmas
 pub mod ReadLaws
+pub mod TypeSetLemmas
+pub mod TtlLemmas
+pub mod HashLemmas
+pub mod TimeLemmas
+pub mod AddressLemmas

@@ -10,7 +10,8 @@ use Rattle.domain_types.specs.Spelling.{NameToken, at_origin, absolute, relative
 use Rattle.domain_types.specs.Spelling.{PlainText, FieldSpelling}
 use Rattle.domain_types.specs.Reading.{TokenText, SpellsField, TokenFault, ManyTexts, ManyFault, TailTexts, TailFault, LayoutTexts, LayoutFault}
 use Rattle.domain_types.specs.Reading.{BaseFault, QuotedFault, BaseTexts, QuotedTexts, GenericTexts, GenericTextsFault, DataTexts, generic, own}
-use Rattle.domain_types.specs.Reading.{DataTextFault, in_generic, in_own}
+use Rattle.domain_types.specs.Reading.{DataTextFault, in_generic, in_own, SpellsType, TypeTokenFault, MnemonicTexts, MnemonicFault}
+use Rattle.domain_bitmap.{specs.{Blocks.IsBitmap, Text.is_among}, proofs.BitmapLemmas.IsBitmap-bitmap_octets}
 use Rattle.domain_types.specs.{Canonical.IsData, Table.{fields_of, tail_of}}
 use Rattle.domain_types.specs.declared.field.{Field.Field, Tail.Tail}
 use Rattle.domain_types.specs.declared.field.Field.TheVariants as fields
@@ -48,22 +49,29 @@ segments_eight text segments (inr elided) =
     let joined = ap length elided.value ∙ length-append (elided.head ++ _) elided.tail ∙ ap (λ n. n + length elided.tail) (length-append elided.head _) in
     omega (arith, joined, elided.room, length-replicate {A = ℕ} gap 0)
 
+counted_valid : (string octets : List ℕ) → octets ≡ length string ∷ string → length octets ≡ 1 + slice_index octets 0
+counted_valid string octets is = subst (λ o. length o ≡ 1 + slice_index o 0) (sym is) (let e : suc (length string) ≡ 1 + length string = omega arith in e)
+
 plain_valid : (field : Field) (text octets : List ℕ) → PlainText field text octets → IsField field octets
 plain_valid fields.Number8 text octets (n, number, is) = ap length is
 plain_valid fields.Number16 text octets (n, number, is) = ap length is
 plain_valid fields.Number32 text octets (n, number, is) = ap length is
-plain_valid fields.Algorithm text octets (n, number, is) = ap length is
-plain_valid fields.Scheme text octets (n, number, is) = ap length is
-plain_valid fields.CertificateType text octets (n, number, is) = ap length is
+plain_valid fields.Algorithm text octets (n, spelled, small, is) = ap length is
+plain_valid fields.Scheme text octets (n, spelled, small, is) = ap length is
+plain_valid fields.CertificateType text octets (n, spelled, small, is) = ap length is
 plain_valid fields.RecordType text octets (t, spelled, is) = ap length is
-plain_valid fields.Period text octets (n, number, is) = ap length is
-plain_valid fields.Time text octets (n, number, is) = ap length is
+plain_valid fields.Period text octets (n, spelled, is) = ap length is
+plain_valid fields.Time text octets (n, spelled, is) = ap length is
 plain_valid fields.Ipv4 text octets is = ap length is.value
 plain_valid fields.Ipv6 text octets (a, spelled, is) =
     ap length is ∙ length-octets_of a.segments ∙ ap (λ n. 2 * n) (segments_eight text a.segments spelled)
-plain_valid fields.CharacterString text octets (string, spelled, fits, is) =
-    subst (λ o. length o ≡ 1 + slice_index o 0) (sym is) (let e : suc (length string) ≡ 1 + length string = omega arith in e)
+plain_valid fields.CharacterString text octets (string, spelled, fits, is) = counted_valid string octets is
+plain_valid fields.Salt text octets (salt, spelled, is) = counted_valid salt octets is
+plain_valid fields.HashedOwner text octets (hash, spelled, some, is) = counted_valid hash octets is
 plain_valid fields.Tag text octets (is, fits, word) = word
+plain_valid fields.Locator64 text octets is = ap length is.value
+plain_valid fields.Eui48 text octets is = is.full
+plain_valid fields.Eui64 text octets is = is.full
 plain_valid field text octets is = absurd (is)
 
 pub field_valid : (origin : Name) (field : Field) (text octets : List ℕ) → IsName origin → FieldSpelling origin field text octets → IsField field octets
@@ -97,7 +105,7 @@ tail_valid origin tails.Base16 tokens octets valid is = tt
 tail_valid origin tails.Base64 tokens octets valid is = tt
 tail_valid origin tails.Quoted tokens octets valid is = tt
 tail_valid origin tails.Opaque tokens octets valid is = tt
-tail_valid origin tails.Types tokens octets valid is = absurd (is)
+tail_valid origin tails.Types tokens octets valid is = subst IsBitmap (sym is.bitmap) (IsBitmap-bitmap_octets (is_among is.types))
 tail_valid origin (tails.Many field) tokens octets valid is = many_valid origin field tokens octets valid is
 tail_valid origin (tails.AtLeastOne field) tokens octets valid is =
     (some_octets origin field tokens octets valid is.0 is.1, many_valid origin field tokens octets valid is.1)
@@ -144,6 +152,18 @@ quoted_none tokens place (kinds.NotTail other) octets wrong real is = wrong.3 oc
 quoted_none tokens place kinds.OutOfMemory octets wrong real is = real refl
 quoted_none tokens place kind octets wrong real is = wrong
 
+type_none : (token : TokenText) (kind : DataFaultKind) (t : ℕ) → TypeTokenFault token kind → (kind ≡ OutOfMemory → ⊥) → SpellsType token t → ⊥
+type_none token kinds.Quoted t wrong real is = let e : true ≡ false = sym wrong ∙ is.unquoted in cc
+type_none token (kinds.NotTail other) t wrong real is = wrong.1 t is
+type_none token kinds.OutOfMemory t wrong real is = real refl
+type_none token kind t wrong real is = wrong
+
+types_none : (tokens : List TokenText) (place : ℕ) (kind : DataFaultKind) (types : List ℕ) → MnemonicFault tokens place kind
+    → (kind ≡ OutOfMemory → ⊥) → MnemonicTexts tokens types → ⊥
+types_none [] place kind types wrong real is = real wrong.1
+types_none (token ∷ tokens) place kind types (inl here) real is = type_none token kind is.0 here.1 real is.3
+types_none (token ∷ tokens) place kind types (inr later) real is = types_none tokens later.1.0 kind is.1 later.1.2 real is.4
+
 least_none : (origin : Name) (field : Field) (tokens : List TokenText) (place : ℕ) (kind : DataFaultKind) (octets : List ℕ)
     → TailFault origin (tails.AtLeastOne field) tokens place kind → (kind ≡ OutOfMemory → ⊥)
     → TailTexts origin (tails.AtLeastOne field) tokens octets → ⊥
@@ -163,7 +183,7 @@ tail_none origin tails.Base16 tokens place kind octets wrong real is = base_none
 tail_none origin tails.Base64 tokens place kind octets wrong real is = base_none _ tails.Base64 tokens place kind octets wrong real is
 tail_none origin tails.Quoted tokens place kind octets wrong real is = quoted_none tokens place kind octets wrong real is
 tail_none origin tails.Opaque tokens place kind octets wrong real is = is
-tail_none origin tails.Types tokens place kind octets wrong real is = is
+tail_none origin tails.Types tokens place kind octets wrong real is = types_none tokens place kind is.types wrong real is.spelled
 tail_none origin (tails.Many field) tokens place kind octets wrong real is = many_none origin field tokens place kind octets wrong real is
 tail_none origin (tails.AtLeastOne field) tokens place kind octets wrong real is = least_none origin field tokens place kind octets wrong real is
 tail_none origin (tails.AtMostOne field) tokens place kind octets wrong real is = most_none origin field tokens place kind octets wrong real is

@@ -7,10 +7,10 @@ use Rattle.domain_types.specs.Spelling.{FieldSpelling}
 use Rattle.domain_types.specs.declared.token.Token.{Token}
 use Rattle.domain_types.specs.Reading.{TokenText, token_text, SpellsField, TokenFault, ManyTexts, ManyFault, LayoutTexts, LayoutFault, AreRead}
 use Rattle.domain_types.specs.Reading.{AreUnquoted, token_texts}
-use Rattle.domain_types.specs.Reading.{TailTexts, TailFault, IsMarked, BaseTexts, BaseFault, QuotedFault, tail_kind}
+use Rattle.domain_types.specs.Reading.{TailTexts, TailFault, BaseTexts, BaseFault, QuotedFault, tail_kind}
 use Rattle.domain_types.specs.Spelling.{SpellsNothing, StringText}
 use Rattle.domain_codecs.specs.{Codec.Decodes, declared.codec.Codec.Codec}
-use Rattle.std.specs.{List.{concat}, Prelude.◌↔◌}
+use Rattle.std.specs.{List.{concat}}
 use Rattle.domain_types.specs.declared.spell.SpellFault.{SpellFault}
 use Rattle.domain_types.specs.declared.spell.SpellFault.TheVariants as spell
 use Rattle.domain_types.specs.declared.field.Tail.TheVariants as tails
@@ -33,7 +33,7 @@ pub record IsReadMany (origin : Name) (field : Field) (tokens : List TokenText) 
   pub fault : (later : ℕ) (kind : DataFaultKind) → ManyFault origin field (drop place tokens) later kind → ManyFault origin field tokens (place + later) kind
 
 -- the token at a place
-many_at : (tokens : List TokenText) (place : ℕ) (token : TokenText) → place < length tokens → token ≡ get_or tokens place token
+pub many_at : (tokens : List TokenText) (place : ℕ) (token : TokenText) → place < length tokens → token ≡ get_or tokens place token
     → drop place tokens ≡ token ∷ drop (place + 1) tokens
 many_at tokens place token below at = drop-cons tokens place token below ∙ ap (λ t. t ∷ drop (suc place) tokens) (sym at) ∙ rw add-one refl
 

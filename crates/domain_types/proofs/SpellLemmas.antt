@@ -58,7 +58,7 @@ pub ruleset joined_steps = (common_steps, joined_wire, joined_name, joined_long)
 
 -- ---- the characters of a name
 
-abbrev AreLow : List ℕ → Type 0
+abbrev pub AreLow : List ℕ → Type 0
 AreLow text = AllByRecursion (λ c. c < 128) text
 
 low_append : (a b : List ℕ) → AreLow a → AreLow b → AreLow (a ++ b)
@@ -155,7 +155,7 @@ labels_low text labels (dotted t label after more here valid rest) =
     let front = label_low t label (46 ∷ after) here in
     subst AreLow (sym front.1) (low_append front.0 (46 ∷ after) front.2 (omega arith, labels_low after more rest))
 
-low_ascii : (text : List ℕ) → AreLow text → IsAscii text
+pub low_ascii : (text : List ℕ) → AreLow text → IsAscii text
 low_ascii [] low = λ i. omega arith
 low_ascii (c ∷ text) low = λ i. low_at c text low.0 (low_ascii text low.1) i
 

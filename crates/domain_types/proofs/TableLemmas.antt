@@ -3,11 +3,12 @@ use Rattle.std.proofs.Common.{◌≡◌, ℕ, ◌<◌, List, [], ◌∷◌, arit
 use Rattle.std.proofs.lemmas.{Grind.common_steps, Str.IsUtf8-from_ascii, List.{length-map, take_at}, Bool.Decides.nat_tests}
 use Rattle.std.specs.{Str.{IsAscii, IsUtf8}, Str.Parse.{AllDigits}, Char.{digit_value, to_ascii_lowercase}, Prelude.{slice_index, codes}}
 use Rattle.domain_base.specs.{Scan.{IsNumber}, Numbers.HasPrefix}
-use Rattle.std.proofs.Common.{Some, None, refl, rules, ◌++◌}
+use Rattle.std.proofs.Common.{Option, Some, None, refl, rules, ◌++◌}
 use Rattle.std.specs.{List.AllByRecursion, Fmt.decimal}
 use Rattle.domain_base.specs.Numbers.{Named, name_of, number_named, by_name, by_number}
 use Rattle.domain_base.proofs.TextLemmas.{one_named}
 use Rattle.domain_base.proofs.TextLemmas.{number_back as decimal_number}
+use Rattle.domain_types.specs.Mnemonics.{NumberOrMnemonic, as_mnemonic, in_decimal}
 use Rattle.domain_types.specs.Table.{type_rows, row_in, names_of, mnemonic_of, MnemonicText}
 
 digit_at : (c : ℕ) (digits : List ℕ) → digit_value c < 10 → IsAscii digits → (i : ℕ) → slice_index (c ∷ digits) i < 128
@@ -58,3 +59,11 @@ number_back t fits = by_number (codes "TYPE" ++ decimal t) (decimal t) t (type_d
 
 pub one_type : (text : List ℕ) (x y : ℕ) → MnemonicText text x → MnemonicText text y → x ≡ y
 one_type text x y = one_named (names_of type_rows) (codes "TYPE") text x y
+
+-- ---- mnemonics of numbers
+
+-- a text that is no mnemonic of the table and no number
+pub not_in_either_way : (table : List Named) (text : List ℕ) (n : ℕ) → number_named table text ≡ None → ((m : ℕ) → IsNumber 32 text m → ⊥)
+    → NumberOrMnemonic table text n → ⊥
+not_in_either_way table text n none no_number (as_mnemonic t m is) = let e : ◌≡◌ {A = Option ℕ} (Some m) None = sym is ∙ none in cc
+not_in_either_way table text n none no_number (in_decimal t m other is) = no_number m is

@@ -3,3 +3,7 @@ pub mod Table
 pub mod Canonical
 pub mod Spelling
 pub mod Reading
+pub mod Ttls
+pub mod Times
+pub mod Mnemonics
+pub mod Addresses

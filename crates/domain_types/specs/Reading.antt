@@ -4,10 +4,11 @@ use Rattle.std.specs.Prelude.{◌≡◌, ℕ, ◌+◌, ◌<◌, ◌≤◌, ◌�
 use Rattle.std.specs.List.{concat, AllByRecursion}
 use Rattle.domain_octets.specs.Octets.{Octets}
 use Rattle.domain_names.specs.Name.{Name}
-use Rattle.domain_base.specs.Scan.{IsNumber}
+use Rattle.domain_base.specs.{Scan.{IsNumber}, Types.Rtypes}
+use Rattle.domain_bitmap.specs.{Bitmap.bitmap_octets, Text.is_among}
 use Rattle.domain_codecs.specs.{Codec.Decodes, declared.codec.Codec.{Codec}}
 use Rattle.domain_codecs.specs.declared.codec.Codec.TheVariants as codecs
-use Rattle.domain_types.specs.{Canonical.IsData, Spelling.{FieldSpelling, StringText}, Table.{fields_of, tail_of}}
+use Rattle.domain_types.specs.{Canonical.IsData, Spelling.{FieldSpelling, NameToken, StringText}, Table.{fields_of, tail_of, MnemonicText}}
 use Rattle.domain_types.specs.declared.field.Field.{Field, TheVariants.CharacterString}
 use Rattle.domain_types.specs.declared.field.Tail.{Tail}
 use Rattle.domain_types.specs.declared.field.Tail.TheVariants as tails
@@ -16,6 +17,8 @@ use Rattle.domain_types.specs.declared.spell.SpellFault.TheVariants as spell
 use Rattle.domain_types.specs.declared.token.Token.{Token}
 use Rattle.domain_types.specs.declared.token.DataFaultKind.{DataFaultKind}
 use Rattle.domain_types.specs.declared.token.DataFaultKind.TheVariants.{Missing, Extra, Quoted, NotField, NotTail, NoText, NotGeneric, NotData, OutOfMemory}
+use Rattle.domain_types.specs.declared.name.NameTokenError.{NameTokenError, TheVariants.{NoName}}
+use Rattle.domain_types.specs.declared.name.NameTokenError.TheVariants as name_error
 
 -- a token: its octets without quotes around them, and whether there were quotes
 pub record TokenText : Type 0 where
@@ -28,6 +31,16 @@ token_text token = record { octets = token.octets.now; is_quoted = token.is_quot
 
 abbrev pub token_texts : List TokenText → List Octets
 token_texts = map (λ token. token.octets)
+
+-- the token spells the name, without quotes
+pub record SpellsName (origin : Name) (token : TokenText) (name : Name) : Type 0 where
+  pub unquoted : token.is_quoted ≡ false
+  pub spelled : NameToken origin token.octets name
+
+-- it spells none, or memory ran out
+abbrev pub SpellsNoName : Name → TokenText → NameTokenError → Type 0
+SpellsNoName origin token NoName = (name : Name) → SpellsName origin token name → ⊥
+SpellsNoName origin token name_error.OutOfMemory = Unit {0}
 
 -- octets were appended
 pub record Grows (old new : Octets) : Type 0 where
@@ -94,6 +107,25 @@ pub record QuotedTexts (tokens : List TokenText) (octets : Octets) : Type 0 wher
   pub one : tokens ≡ token ∷ []
   pub text : StringText token.octets octets
 
+-- the token spells a type, without quotes
+pub record SpellsType (token : TokenText) (t : ℕ) : Type 0 where
+  pub unquoted : token.is_quoted ≡ false
+  pub text : MnemonicText token.octets t
+
+-- each token spells a type
+abbrev pub MnemonicTexts : List TokenText → Rtypes → Type 0
+MnemonicTexts [] types = types ≡ []
+MnemonicTexts (token ∷ tokens) types =
+    (t : ℕ) × (more : Rtypes) × (types ≡ t ∷ more) × SpellsType token t
+    × MnemonicTexts tokens more
+
+-- the tokens spell types, in any order and however often, and the octets are the bitmap of their
+-- set (RFC 4034, section 4.2)
+pub record BitmapTexts (tokens : List TokenText) (octets : Octets) : Type 0 where
+  pub types : Rtypes
+  pub spelled : MnemonicTexts tokens types
+  pub bitmap : octets ≡ bitmap_octets (is_among types)
+
 -- the tokens spell the octets of this tail; the kinds without a text of their own are spelled by no
 -- tokens: their data are read in the generic form
 abbrev pub TailTexts : Name → Tail → List TokenText → Octets → Type 0
@@ -102,7 +134,7 @@ TailTexts origin tails.Base16 tokens octets = BaseTexts codecs.Base16 tokens oct
 TailTexts origin tails.Base64 tokens octets = BaseTexts codecs.Base64 tokens octets
 TailTexts origin tails.Quoted tokens octets = QuotedTexts tokens octets
 TailTexts origin tails.Opaque tokens octets = ⊥
-TailTexts origin tails.Types tokens octets = ⊥
+TailTexts origin tails.Types tokens octets = BitmapTexts tokens octets
 TailTexts origin (tails.Many field) tokens octets = ManyTexts origin field tokens octets
 TailTexts origin (tails.AtLeastOne field) tokens octets =
     (0 < length tokens) × ManyTexts origin field tokens octets
@@ -128,6 +160,23 @@ QuotedFault tokens place (NotTail other) =
 QuotedFault tokens place OutOfMemory = Unit {0}
 QuotedFault tokens place kind = ⊥
 
+-- the fault of a token that has to be a type
+abbrev pub TypeTokenFault : TokenText → DataFaultKind → Type 0
+TypeTokenFault token Quoted = token.is_quoted ≡ true
+TypeTokenFault token (NotTail other) =
+    (other ≡ tails.Types) × ((t : ℕ) → SpellsType token t → ⊥)
+TypeTokenFault token OutOfMemory = Unit {0}
+TypeTokenFault token kind = ⊥
+
+-- the first token that is no type, by its place, and its fault; behind types only memory can be
+-- missing
+abbrev pub MnemonicFault : List TokenText → ℕ → DataFaultKind → Type 0
+MnemonicFault [] place kind = (place ≡ 0) × (kind ≡ OutOfMemory)
+MnemonicFault (token ∷ tokens) place kind =
+    ((place ≡ 0) × TypeTokenFault token kind)
+    ⊎ (((t : ℕ) × SpellsType token t)
+    × ((before : ℕ) × (place ≡ before + 1) × MnemonicFault tokens before kind))
+
 -- the first fault of tokens that have to spell this tail, by its place
 abbrev pub TailFault : Name → Tail → List TokenText → ℕ → DataFaultKind → Type 0
 TailFault origin tails.Nothing tokens place kind =
@@ -138,7 +187,7 @@ TailFault origin tails.Base64 tokens place kind =
     BaseFault codecs.Base64 tails.Base64 tokens place kind
 TailFault origin tails.Quoted tokens place kind = QuotedFault tokens place kind
 TailFault origin tails.Opaque tokens place kind = (place ≡ 0) × (kind ≡ NoText)
-TailFault origin tails.Types tokens place kind = (place ≡ 0) × (kind ≡ NoText)
+TailFault origin tails.Types tokens place kind = MnemonicFault tokens place kind
 TailFault origin (tails.Many field) tokens place kind = ManyFault origin field tokens place kind
 TailFault origin (tails.AtLeastOne field) tokens place kind =
     ((place ≡ 0) × (kind ≡ Missing) × (tokens ≡ [])) ⊎ ManyFault origin field tokens place kind

@@ -1,12 +1,16 @@
 -- The presentation format of fields: the octets that a token spells (RFC 1035, section 5.1).
-use Rattle.std.specs.Prelude.{◌≡◌, ◌≢◌, ℕ, ◌+◌, ◌-◌, ◌*◌, ◌≤◌, ◌==◌, ◌&&◌, Bool, true, false, nat_le, if◌then◌else◌, Option, Some, None, [], ◌∷◌, ◌++◌}
+use Rattle.std.specs.Prelude.{◌≡◌, ◌≢◌, ℕ, ◌+◌, ◌-◌, ◌*◌, ◌<◌, ◌≤◌, ◌==◌, ◌&&◌, Bool, true, false, nat_le, if◌then◌else◌, Option, Some, None, [], ◌∷◌, ◌++◌}
 use Rattle.std.specs.Prelude.{length, drop, fold}
 use Rattle.std.specs.{Int.{w16, w32, to_be_bytes}, Char.is_ascii_digit, Net.{Grammar.{IsDotted, IsIpv6Text}, Addr.ipv6_octets}}
 use Rattle.std.specs.declared.net.ipv6_addr.Ipv6Addr.{Ipv6Addr}
 use Rattle.domain_octets.specs.{Octets.Octets, Text.{dot, at_sign, backslash, digit_zero}}
 use Rattle.domain_names.specs.{Name.{Name, IsName, wire_of}, Text.NameText}
 use Rattle.domain_base.specs.Scan.{IsNumber}
-use Rattle.domain_types.specs.{Table.MnemonicText, Fields.IsTag}
+use Rattle.domain_bitmap.specs.Text.{SaltText, OwnerHashText}
+use Rattle.domain_types.specs.{Table.MnemonicText, Fields.IsTag, Ttls.ttl_text, Times.StampText}
+use Rattle.domain_types.specs.Addresses.{EuiText, LocatorText}
+use Rattle.domain_types.specs.Mnemonics.{ByteOrMnemonic, ShortOrMnemonic, algorithm_names, certificate_names, scheme_names}
+use Rattle.domain_types.specs.declared.ttl.TtlText.{TheVariants.Seconds}
 use Rattle.domain_types.specs.declared.field.Field.{Field}
 use Rattle.domain_types.specs.declared.field.Field.TheVariants as fields
 use Rattle.domain_types.specs.declared.spell.Going.{Going, TheVariants.{Inside, Escaped, AfterDot}}
@@ -97,22 +101,47 @@ StringField text octets =
 abbrev pub TagText : Octets → Octets → Type 0
 TagText text octets = (octets ≡ length text ∷ text) × (length text ≤ 255) × IsTag octets
 
+-- a salt, after its length (RFC 5155, section 3.3)
+abbrev pub SaltField : Octets → Octets → Type 0
+SaltField text octets =
+    (salt : Octets) × SaltText text salt × (octets ≡ length salt ∷ salt)
+
+-- a hash of at least one octet, after its length (RFC 5155, section 3.3)
+abbrev pub HashField : Octets → Octets → Type 0
+HashField text octets =
+    (hash : Octets) × OwnerHashText text hash × (0 < length hash)
+    × (octets ≡ length hash ∷ hash)
+
+-- a number of seconds, which may have units, in four octets
+abbrev pub PeriodField : Octets → Octets → Type 0
+PeriodField text octets =
+    (n : ℕ) × (ttl_text text ≡ Seconds n) × (octets ≡ to_be_bytes w32 n)
+
+-- a time, in four octets (RFC 4034, section 3.2)
+abbrev pub TimeField : Octets → Octets → Type 0
+TimeField text octets = (n : ℕ) × StampText text n × (octets ≡ to_be_bytes w32 n)
+
 -- the text spells the octets of a field that is no name; the kinds without a text of their own are
 -- spelled by no text: their data are read in the generic form
 abbrev pub PlainText : Field → Octets → Octets → Type 0
 PlainText fields.Number8 text octets = ByteText text octets
 PlainText fields.Number16 text octets = ShortText text octets
 PlainText fields.Number32 text octets = LongText text octets
-PlainText fields.Algorithm text octets = ByteText text octets
-PlainText fields.Scheme text octets = ByteText text octets
-PlainText fields.CertificateType text octets = ShortText text octets
+PlainText fields.Algorithm text octets = ByteOrMnemonic algorithm_names text octets
+PlainText fields.Scheme text octets = ByteOrMnemonic scheme_names text octets
+PlainText fields.CertificateType text octets = ShortOrMnemonic certificate_names text octets
 PlainText fields.RecordType text octets = TypeField text octets
-PlainText fields.Period text octets = LongText text octets
-PlainText fields.Time text octets = LongText text octets
+PlainText fields.Period text octets = PeriodField text octets
+PlainText fields.Time text octets = TimeField text octets
 PlainText fields.Ipv4 text octets = IsDotted text octets
 PlainText fields.Ipv6 text octets = LongAddressText text octets
 PlainText fields.CharacterString text octets = StringField text octets
 PlainText fields.Tag text octets = TagText text octets
+PlainText fields.Salt text octets = SaltField text octets
+PlainText fields.HashedOwner text octets = HashField text octets
+PlainText fields.Locator64 text octets = LocatorText text octets
+PlainText fields.Eui48 text octets = EuiText 6 text octets
+PlainText fields.Eui64 text octets = EuiText 8 text octets
 PlainText _ text octets = ⊥
 
 -- the text spells the octets of a field of this kind

@@ -8,31 +8,42 @@
 //! - [`is_data`]: whether octets are data of the type (`IsData` of `specs/Canonical.antt`).
 //! - [`put_canonical`]: the canonical form of data (RFC 4034, section 6.2; RFC 6840, section 5.1).
 //! - [`read_data`]: data that the tokens of a zone file spell, or the first fault
-//!   (`specs/Reading.antt`).
+//!   (`specs/Reading.antt`). [`read_name`] reads one name.
+//!
+//! [`read_ttl`] reads a TTL, which periods in data share (`specs/Ttls.antt`).
 //!
 //! Other crates may rely on this. Contracts see a type as its number and data as octets. A field
 //! begins octets in at most one way, so data are their fields in one way. What is read is data of
 //! the type, and tokens with a fault spell none. The module `laws` has these laws.
 //!
-//! Data of some kinds are read in the generic form only: type bitmaps, salts and hashes of NSEC3,
-//! locators, EUI addresses, locations, gateways, host identities, address prefixes and parameters
-//! of services. Periods and times are numbers of seconds, and algorithms are numbers.
+//! Data of some kinds are read in the generic form only: locations, gateways, host identities,
+//! address prefixes and parameters of services, and data of old types.
 #![tactic(auto)]
 
+mod address;
+mod bitmap;
 mod canonical;
 mod data;
+mod fault_text;
 mod field;
+mod hashed;
 pub mod laws;
 mod lookup;
 mod measure;
+mod name;
+mod named;
 mod read;
 mod spell;
 mod table;
+mod time;
 mod token;
+mod ttl;
 
 pub use canonical::put_canonical;
 pub use data::is_data;
 pub use field::{Field, Tail};
 pub use lookup::{mnemonic, rtype_of};
+pub use name::{NameTokenError, read_name};
 pub use read::read_data;
 pub use token::{DataFault, DataFaultKind, Token};
+pub use ttl::{TtlText, read_ttl};

@@ -16,6 +16,7 @@ ghost use Rattle.domain_codecs.specs.Codec.{Decodes};
 ghost use Rattle.domain_codecs.specs.declared.codec.Codec.TheVariants as codecs;
 ghost use Rattle.std.specs.{List.concat, Prelude.MatchOption};
 
+use crate::bitmap::put_types;
 use crate::data::is_data;
 use crate::field::{Field, Tail};
 use crate::lookup::{number_of, row_of};
@@ -101,6 +102,7 @@ fn put_fields(
     ensures inside { OnOk result (length fields.now ≤ length tokens.now) }
     ensures err { IfErr result (λ e. (tail : Tail)
         → LayoutFault origin.now fields.now tail (map token_text tokens.now) e.token e.kind) }
+    ensures place { IfErr result (λ e. e.token ≤ length tokens.now) }
     ensures grows { Grows out.old.items out.new.items }
 {
     for (place, field) in fields.iter().enumerate() {
@@ -319,7 +321,7 @@ fn put_tail(
         Tail::Base64 => put_base64(alloc, tokens, out),
         Tail::Quoted => put_quoted(tokens, out),
         Tail::Opaque => Err(first(DataFaultKind::NoText)),
-        Tail::Types => Err(first(DataFaultKind::NoText)),
+        Tail::Types => put_types(alloc, tokens, out),
         Tail::Many(field) => put_many(alloc, field, tokens, origin, out),
         Tail::AtLeastOne(_) if tokens.is_empty() => Err(first(DataFaultKind::Missing)),
         Tail::AtLeastOne(field) => put_many(alloc, field, tokens, origin, out),
@@ -344,6 +346,7 @@ fn put_layout(
         × (out.new.items ≡ out.old.items ++ part)) }
     ensures err { IfErr result (λ e.
         LayoutFault origin.now row.now.2.now row.now.3 (map token_text tokens.now) e.token e.kind) }
+    ensures place { IfErr result (λ e. e.token ≤ length tokens.now) }
     ensures grows { Grows out.old.items out.new.items }
 {
     if let Err(fault) = put_fields(alloc, row.2, tokens, origin, out) {
@@ -415,6 +418,7 @@ fn put_generic(
         × IsData rtype part × (out.new.items ≡ out.old.items ++ part)) }
     ensures err { IfErr result (λ e.
         GenericTextsFault rtype (map token_text tokens.now) e.token e.kind) }
+    ensures place { IfErr result (λ e. e.token ≤ 1) }
     ensures same { OnErr result (out.new.items ≡ out.old.items) }
 {
     let octets = match generic_octets(alloc, tokens) {
@@ -452,6 +456,7 @@ fn put_data(
         × (out.new.items ≡ out.old.items ++ part)) }
     ensures err { IfErr result (λ e.
         DataTextFault origin.now rtype (map token_text tokens.now) e.token e.kind) }
+    ensures place { IfErr result (λ e. e.token ≤ length tokens.now) }
     ensures grows { Grows out.old.items out.new.items }
 {
     if is_marked(tokens) {
@@ -485,6 +490,7 @@ pub fn read_data(
         × (out.new.items ≡ out.old.items ++ part)) }
     ensures err { IfErr result (λ e.
         DataTextFault origin.now rtype (map token_text tokens.now) e.token e.kind) }
+    ensures place { IfErr result (λ e. e.token ≤ length tokens.now) }
     ensures same { OnErr result (out.new.items ≡ out.old.items) }
 {
     let start = out.len();

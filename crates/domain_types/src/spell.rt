@@ -4,15 +4,22 @@ ghost use Rattle.std.specs.{Int.{w16, w32, to_be_bytes}};
 ghost use Rattle.domain_octets.specs.{Octets.Octets, Text.at_sign};
 ghost use Rattle.domain_base.specs.Scan.{IsNumber};
 ghost use Rattle.domain_names.specs.{Name.{wire_of, IsName}, Text.{NameText, NameTextFault, scan_fault_of}, Wire.{IsWire, labels_of}};
-ghost use Rattle.domain_types.specs.Spelling.{going_on, ends_in_dot, NameField, string_octet, StringText};
+ghost use Rattle.domain_types.specs.Spelling.{going_on, ends_in_dot, NameField, NameToken, string_octet, StringText};
 ghost use Rattle.domain_types.specs.Spelling.{ByteText, ShortText, LongText, TypeField, TagText};
 ghost use Rattle.domain_types.specs.Spelling.{LongAddressText, StringField, PlainText, FieldSpelling};
-ghost use Rattle.domain_types.specs.Spelling.{SpellsNothing};
+ghost use Rattle.domain_types.specs.Spelling.{SpellsNothing, PeriodField};
 ghost use Rattle.std.specs.Net.Grammar.{IsDotted};
 
+use crate::address::{spell_eui, spell_locator};
 use crate::field::Field;
+use crate::hashed::{spell_hash, spell_salt};
 use crate::lookup::rtype_of;
 use crate::measure::are_letters;
+use crate::named::{
+    algorithms, certificates, schemes, spell_byte_or_mnemonic, spell_short_or_mnemonic,
+};
+use crate::time::spell_time;
+use crate::ttl::{TtlText, read_ttl};
 use domain_base::{FromToken, MAX_NAME, Name, ParsedName, ScanError, ToName};
 use domain_octets::{ArrayBuilder, Octets, OctetsBuilder, SmallOctets};
 use std::alloc::Global;
@@ -22,7 +29,7 @@ use std::net::{Ipv4Addr, Ipv6Addr};
 pub(crate) type Part = ArrayBuilder<256>;
 
 /// The greatest number of octets of a string (RFC 1035, section 3.3).
-const MAX_STRING: usize = 255;
+pub(crate) const MAX_STRING: usize = 255;
 
 /// The reason why a token gives no field.
 #[derive(Clone, Copy)]
@@ -45,7 +52,7 @@ pub(crate) enum Going {
 }
 
 /// Returns a part with these octets.
-fn part_of(octets: &[u8]) -> Part
+pub(crate) fn part_of(octets: &[u8]) -> Part
     requires { length octets.now ≤ 256 }
     ensures { result ≡ octets.now }
 {
@@ -142,13 +149,16 @@ fn is_at(text: &[u8]) -> bool
 
 /// Returns the octets of a name that a text spells, with the origin after it unless the text ends
 /// in a dot.
-#[tactic(auto, using(std::proofs::lemmas::Grind::common_steps, crate::specs::Spelling::absolute, crate::specs::Spelling::relative, crate::proofs::SpellLemmas::no_other_name))]
+#[tactic(auto, using(std::proofs::lemmas::Grind::common_steps, crate::specs::Spelling::absolute, crate::specs::Spelling::relative, crate::proofs::SpellLemmas::no_other_name, crate::proofs::NameLemmas::wire_is, crate::proofs::NameLemmas::labels_are))]
 fn place_name(text: &[u8], name: &[u8], origin: &[u8]) -> Option<Part>
     requires name { IsWire name.now }
     requires origin { IsWire origin.now }
     requires text { NameText text.now (labels_of name.now) }
     requires other { text.now ≢ at_sign ∷ [] }
     ensures some { IfSome result (NameField (labels_of origin.now) text.now) }
+    ensures wire { IfSome result (λ part. IsWire part) }
+    ensures name { IfSome result (λ part.
+        NameToken (labels_of origin.now) text.now (labels_of part)) }
     ensures none { IfNone result ((octets : Octets)
         → NameField (labels_of origin.now) text.now octets → ⊥) }
 {
@@ -163,8 +173,14 @@ fn place_name(text: &[u8], name: &[u8], origin: &[u8]) -> Option<Part>
 
 /// Returns the octets of the name that a token spells.
 #[tactic(auto, using(std::proofs::lemmas::Grind::common_steps, crate::specs::Spelling::at_origin, crate::proofs::SpellLemmas::no_name_text))]
-fn spell_name(alloc: Global, text: &[u8], origin: &ParsedName<'_>) -> Result<Part, SpellFault>
+pub(crate) fn spell_name(
+    alloc: Global,
+    text: &[u8],
+    origin: &ParsedName<'_>,
+) -> Result<Part, SpellFault>
     ensures ok { IfOk result (NameField origin.now text.now) }
+    ensures wire { IfOk result (λ part. IsWire part) }
+    ensures name { IfOk result (λ part. NameToken origin.now text.now (labels_of part)) }
     ensures err { IfErr result (SpellsNothing (NameField origin.now text.now)) }
 {
     if is_at(text) {
@@ -230,7 +246,7 @@ fn spell_tag(text: &[u8]) -> Option<Part>
 }
 
 /// Returns octets after their length.
-fn counted(octets: &[u8]) -> Part
+pub(crate) fn counted(octets: &[u8]) -> Part
     requires { length octets.now ≤ 255 }
     ensures { result ≡ length octets.now ∷ octets.now }
 {
@@ -279,6 +295,17 @@ fn spell_long(text: &[u8]) -> Option<Part>
     Some(part_of(&number.to_be_bytes()))
 }
 
+/// Returns the four octets of the period that a token spells.
+fn spell_period(text: &[u8]) -> Option<Part>
+    ensures some { IfSome result (PeriodField text.now) }
+    ensures none { IfNone result ((octets : Octets) → PeriodField text.now octets → ⊥) }
+{
+    match read_ttl(text) {
+        TtlText::Seconds(seconds) => Some(part_of(&seconds.to_be_bytes())),
+        _ => None,
+    }
+}
+
 /// Returns the two octets of the type that a token spells.
 fn spell_type(text: &[u8]) -> Option<Part>
     ensures some { IfSome result (TypeField text.now) }
@@ -311,19 +338,29 @@ fn spell_ipv6(text: &[u8]) -> Option<Part>
 }
 
 /// Returns the octets of the field that a token spells, for the kinds that are no names.
-fn spell_plain(field: Field, text: &[u8]) -> Option<Part>
+fn spell_plain(alloc: Global, field: Field, text: &[u8]) -> Option<Part>
     ensures some { IfSome result (PlainText field text.now) }
     ensures none { IfNone result ((octets : Octets) → PlainText field text.now octets → ⊥) }
 {
     match field {
-        Field::Number8 | Field::Algorithm | Field::Scheme => spell_byte(text),
-        Field::Number16 | Field::CertificateType => spell_short(text),
-        Field::Number32 | Field::Period | Field::Time => spell_long(text),
+        Field::Number8 => spell_byte(text),
+        Field::Algorithm => spell_byte_or_mnemonic(algorithms(), text),
+        Field::Scheme => spell_byte_or_mnemonic(schemes(), text),
+        Field::Number16 => spell_short(text),
+        Field::CertificateType => spell_short_or_mnemonic(certificates(), text),
+        Field::Number32 => spell_long(text),
+        Field::Time => spell_time(text),
+        Field::Period => spell_period(text),
         Field::RecordType => spell_type(text),
         Field::Ipv4 => spell_ipv4(text),
         Field::Ipv6 => spell_ipv6(text),
         Field::CharacterString => spell_string(text),
         Field::Tag => spell_tag(text),
+        Field::Salt => spell_salt(alloc, text),
+        Field::HashedOwner => spell_hash(alloc, text),
+        Field::Locator64 => spell_locator(text),
+        Field::Eui48 => spell_eui(6, text),
+        Field::Eui64 => spell_eui(8, text),
         _ => None,
     }
 }
@@ -340,7 +377,7 @@ pub(crate) fn spell(
 {
     match field {
         Field::LoweredName | Field::Name => spell_name(alloc, text, origin),
-        _ => match spell_plain(field, text) {
+        _ => match spell_plain(alloc, field, text) {
             Some(part) => Ok(part),
             None => Err(SpellFault::Invalid),
         },

@@ -4,7 +4,8 @@ use Rattle.std.proofs.{lemmas.Grind.common_steps}
 use Rattle.std.specs.Prelude.{Result, Ok, Err, is_ok, is_err, ◌==◌, vec_len}
 use Rattle.std.specs.declared.{vec.Vec.Vec, alloc.Global.Global}
 use Rattle.domain_types.specs.declared.token.Token.{Token}
-use Rattle.domain_zonefile.specs.{Entries.Piece, Tokens.{pieces_of, token_view, piece_view, has_no_token}}
+use Rattle.domain_zonefile.specs.{Entries.Piece, Tokens.{pieces_of, piece_view, has_no_token}}
+use Rattle.domain_types.specs.Reading.{token_text}
 
 pub pieces_push : (tokens : List Token) (places : List ℕ) (token : Token) (place : ℕ) → length tokens ≡ length places
     → pieces_of (tokens ++ token ∷ []) (places ++ place ∷ [])
@@ -21,11 +22,11 @@ pieces_places [] (p ∷ places) h = grind (arith, common_steps)
 pieces_places (t ∷ tokens) [] h = grind (arith, common_steps)
 pieces_places (t ∷ tokens) (p ∷ places) h = ap (λ ps. p ∷ ps) (pieces_places tokens places (omega arith))
 
-pub pieces_tokens : (tokens : List Token) (places : List ℕ) → length tokens ≡ length places → map token_view tokens ≡ map piece_view (pieces_of tokens places)
+pub pieces_tokens : (tokens : List Token) (places : List ℕ) → length tokens ≡ length places → map token_text tokens ≡ map piece_view (pieces_of tokens places)
 pieces_tokens [] [] h = refl
 pieces_tokens [] (p ∷ places) h = grind (arith, common_steps)
 pieces_tokens (t ∷ tokens) [] h = grind (arith, common_steps)
-pieces_tokens (t ∷ tokens) (p ∷ places) h = ap (λ xs. token_view t ∷ xs) (pieces_tokens tokens places (omega arith))
+pieces_tokens (t ∷ tokens) (p ∷ places) h = ap (λ xs. token_text t ∷ xs) (pieces_tokens tokens places (omega arith))
 
 pub is_ok_there : {X E : Type 0} (result : Result X E) → false ≡ is_err result → is_ok result ≡ true
 is_ok_there (Ok x) h = refl

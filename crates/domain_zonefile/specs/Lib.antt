@@ -5,6 +5,8 @@ pub mod Tokens
 pub mod Reading
 pub mod Places
 pub mod Reader
-pub mod Ttls
 pub mod ZoneClasses
 pub mod Fields
+pub mod Records
+pub mod Lines
+pub mod Files

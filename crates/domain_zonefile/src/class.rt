@@ -5,7 +5,7 @@ ghost use Rattle.domain_zonefile.specs.ZoneClasses.{class_of, named_class, decim
 
 /// Returns whether octets are a word, in either case.
 #[tactic(auto, using(domain_base::proofs::TextLemmas::same_yes, domain_base::proofs::TextLemmas::same_no))]
-fn is_word(octets: &[u8], word: &[u8]) -> bool
+pub(crate) fn is_word(octets: &[u8], word: &[u8]) -> bool
     ensures { result ≡ same_text octets.now word.now }
 {
     octets.eq_ignore_ascii_case(word)

@@ -1,7 +1,7 @@
 //! The fields of an entry before its data (RFC 1035, section 5.1).
 ghost use Rattle.std.specs.Prelude.{◌≡◌, map, Some, codes};
 ghost use Rattle.domain_zonefile.specs.Fields.{ttl_field, class_field, first_ttl, first_class, prefix_of, then_class, then_ttl};
-ghost use Rattle.domain_zonefile.specs.Tokens.{token_view};
+ghost use Rattle.domain_types.specs.Reading.{token_text};
 
 use crate::{Token, TtlText, read_class, read_ttl};
 use std::error::Error;
@@ -36,8 +36,8 @@ impl fmt::Display for LargeTtl {
 impl Error for LargeTtl {}
 
 /// Returns a token as a TTL. A quoted token is none.
-fn ttl_field(token: &Token) -> TtlText
-    ensures { result ≡ ttl_field (token_view token.now) }
+pub(crate) fn ttl_field(token: &Token) -> TtlText
+    ensures { result ≡ ttl_field (token_text token.now) }
 {
     if token.is_quoted {
         return TtlText::NoTtl;
@@ -47,7 +47,7 @@ fn ttl_field(token: &Token) -> TtlText
 
 /// Returns a token as a class. A quoted token is none.
 fn class_field(token: &Token) -> Option<u16>
-    ensures { result ≡ class_field (token_view token.now) }
+    ensures { result ≡ class_field (token_text token.now) }
 {
     if token.is_quoted {
         return None;
@@ -57,7 +57,7 @@ fn class_field(token: &Token) -> Option<u16>
 
 /// Returns the first token as a TTL.
 fn first_ttl(tokens: &[Token]) -> TtlText
-    ensures { result ≡ first_ttl (map token_view tokens.now) }
+    ensures { result ≡ first_ttl (map token_text tokens.now) }
 {
     match tokens {
         [token, ..] => ttl_field(token),
@@ -67,7 +67,7 @@ fn first_ttl(tokens: &[Token]) -> TtlText
 
 /// Returns the first token as a class.
 fn first_class(tokens: &[Token]) -> Option<u16>
-    ensures { result ≡ first_class (map token_view tokens.now) }
+    ensures { result ≡ first_class (map token_text tokens.now) }
 {
     match tokens {
         [token, ..] => class_field(token),
@@ -112,7 +112,7 @@ fn then_ttl(class: u16, ttl: TtlText) -> Result<Prefix, LargeTtl>
 ///
 /// `LargeTtl` if a TTL there has more than 32 bits.
 pub fn read_prefix(tokens: &[Token]) -> Result<Prefix, LargeTtl>
-    ensures { result ≡ prefix_of (map token_view tokens.now) }
+    ensures { result ≡ prefix_of (map token_text tokens.now) }
 {
     let rest = tokens.get(1..).unwrap_or(&[]);
     match first_ttl(tokens) {

@@ -11,23 +11,33 @@
 //! call returns its first item. A call that runs out of memory leaves it as it was.
 #![tactic(auto)]
 
+mod body;
 mod class;
 mod entry;
 mod error;
+mod fault;
 mod fields;
 pub mod laws;
 mod lexeme;
+mod line;
+#[cfg(test)]
+mod line_tests;
 mod place;
 mod reader;
+mod state;
 #[cfg(test)]
 mod tests;
 mod token;
-mod ttl;
+mod zone_reader;
 
+pub use body::{Body, owns_records};
 pub use class::read_class;
-pub use domain_types::Token;
+pub use domain_types::{Token, TtlText, read_ttl};
 pub use error::{SyntaxError, SyntaxFault};
+pub use fault::{EntryFault, EntryFaultKind};
 pub use fields::{LargeTtl, Prefix, read_prefix};
+pub use line::Line;
 pub use place::{Place, has_mark};
 pub use reader::{EntryReader, Found};
-pub use ttl::{TtlText, read_ttl};
+pub use state::{RecordFields, ZoneState};
+pub use zone_reader::{ZoneItem, ZoneReader};

@@ -1,7 +1,8 @@
 //! A reader of the entries of a zone file.
 ghost use Rattle.std.specs.Prelude.{◌≡◌, ◌≤◌, [], map, OnOk, OnErr, IfOk};
 ghost use Rattle.domain_zonefile.specs.{Entries.items_from, Places.{without_mark, place_in}};
-ghost use Rattle.domain_zonefile.specs.{Reader.Finds, Tokens.{token_view, piece_view}};
+ghost use Rattle.domain_types.specs.Reading.{token_text};
+ghost use Rattle.domain_zonefile.specs.{Reader.Finds, Tokens.{piece_view, token_place}};
 
 use crate::entry::{Reading, begins_blank, read_entry};
 use crate::place::{Seen, see, start_of, without_mark};
@@ -101,7 +102,7 @@ impl<'a> EntryReader<'a> {
 
     /// Returns the tokens of the entry that was read last. After a fault there are none.
     pub fn tokens(&self) -> &[Token<'a>]
-        ensures { map token_view result.now ≡ map piece_view self.now.tokens }
+        ensures { map token_text result.now ≡ map piece_view self.now.tokens }
     {
         self.tokens.tokens()
     }
@@ -121,6 +122,16 @@ impl<'a> EntryReader<'a> {
     {
         self.seen = see(self.file, self.seen, at);
         self.seen.place
+    }
+
+    /// Returns the line and column of a token of the entry that was read last, by its number. Where
+    /// one is missing it is that of the last one.
+    pub fn place_of_token(&mut self, token: usize) -> Place
+        ensures place { result ≡ place_in self.old.file (token_place self.old.tokens token) }
+        ensures same { self.new ≡ self.old }
+    {
+        let at = self.tokens.place(token);
+        self.place_of(at)
     }
 
     /// Returns the file, without a byte order mark.

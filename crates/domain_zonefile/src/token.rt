@@ -1,6 +1,7 @@
 //! The tokens of an entry, and the brackets around them.
 ghost use Rattle.std.specs.Prelude.{◌≡◌, ◌∷◌, ◌++◌, [], Option, drop, map, length, OnOk, OnErr, reverse};
-ghost use Rattle.domain_zonefile.specs.Tokens.{innermost, token_view, piece_view, has_no_token};
+ghost use Rattle.domain_zonefile.specs.Tokens.{innermost, token_place, piece_view, has_no_token};
+ghost use Rattle.domain_types.specs.Reading.{token_text};
 ghost use Rattle.domain_zonefile.specs.Entries.{is_outside};
 
 use domain_octets::OutOfMemory;
@@ -72,9 +73,20 @@ impl<'a> Tokens<'a> {
 
     /// Returns the tokens.
     pub fn tokens(&self) -> &[Token<'a>]
-        ensures { map token_view result.now ≡ map piece_view self.now }
+        ensures { map token_text result.now ≡ map piece_view self.now }
     {
         self.tokens.as_slice()
+    }
+
+    /// Returns the place of a token, and that of the last one if there is no such token.
+    pub fn place(&self, token: usize) -> usize
+        ensures { result ≡ token_place self.now token }
+    {
+        let places = self.places();
+        match places.get(token) {
+            Some(at) => *at,
+            None => places.last().copied().unwrap_or(0),
+        }
     }
 
     /// Returns the place of each token.

@@ -1,20 +1,17 @@
-use Rattle.std.proofs.Common.{inl, inr}
+use Rattle.std.proofs.Common.{List, IfNone, subst}
+use Rattle.domain_base.specs.Numbers.{Named}
+use Rattle.domain_octets.specs.Octets.{Octets}
+use Rattle.domain_types.specs.Mnemonics.{ByteOrMnemonic, ShortOrMnemonic}
 use Rattle.domain_types.proofs.spell.spell_plain.Goals as goal
 
 pub returns-in-Number8-clause-none : goal.returns-in-Number8-clause-none
-returns-in-Number8-clause-none c = elim c.in-Number8.is [
-  | inl byte ↦ rw byte c.spell_byte.ensures.none
-  | inr other ↦ elim other [ inl algorithm ↦ rw algorithm c.spell_byte.ensures.none | inr scheme ↦ rw scheme c.spell_byte.ensures.none ]
-]
+returns-in-Number8-clause-none c = rw c.in-Number8.is c.spell_byte.ensures.none
 
 pub returns-in-Number16-clause-none : goal.returns-in-Number16-clause-none
-returns-in-Number16-clause-none c = elim c.in-Number16.is [ inl short ↦ rw short c.spell_short.ensures.none | inr kind ↦ rw kind c.spell_short.ensures.none ]
+returns-in-Number16-clause-none c = rw c.in-Number16.is c.spell_short.ensures.none
 
 pub returns-in-Number32-clause-none : goal.returns-in-Number32-clause-none
-returns-in-Number32-clause-none c = elim c.in-Number32.is [
-  | inl long ↦ rw long c.spell_long.ensures.none
-  | inr other ↦ elim other [ inl period ↦ rw period c.spell_long.ensures.none | inr time ↦ rw time c.spell_long.ensures.none ]
-]
+returns-in-Number32-clause-none c = rw c.in-Number32.is c.spell_long.ensures.none
 
 pub returns-in-RecordType-clause-none : goal.returns-in-RecordType-clause-none
 returns-in-RecordType-clause-none c = rw c.in-RecordType.is c.spell_type.ensures.none
@@ -24,3 +21,42 @@ returns-in-Ipv6-clause-none c = rw c.in-Ipv6.is c.spell_ipv6.ensures.none
 
 pub returns-in-CharacterString-clause-none : goal.returns-in-CharacterString-clause-none
 returns-in-CharacterString-clause-none c = rw c.in-CharacterString.is c.spell_string.ensures.none
+
+pub returns-in-Period-clause-none : goal.returns-in-Period-clause-none
+returns-in-Period-clause-none c = rw c.in-Period.is c.spell_period.ensures.none
+
+pub returns-in-Salt-clause-none : goal.returns-in-Salt-clause-none
+returns-in-Salt-clause-none c = rw c.in-Salt.is c.spell_salt.ensures.none
+
+pub returns-in-HashedOwner-clause-none : goal.returns-in-HashedOwner-clause-none
+returns-in-HashedOwner-clause-none c = rw c.in-HashedOwner.is c.spell_hash.ensures.none
+
+pub returns-in-Time-clause-none : goal.returns-in-Time-clause-none
+returns-in-Time-clause-none c = rw c.in-Time.is c.spell_time.ensures.none
+
+pub returns-in-Algorithm-clause-none : goal.returns-in-Algorithm-clause-none
+returns-in-Algorithm-clause-none c =
+    let text = c.args.text.now in
+    let Refuses = λ (table : List Named). IfNone c.spell_byte_or_mnemonic.result ((octets : Octets) → ByteOrMnemonic table text octets → ⊥) in
+    rw c.in-Algorithm.is (subst Refuses c.algorithms.ensures c.spell_byte_or_mnemonic.ensures.none)
+
+pub returns-in-Scheme-clause-none : goal.returns-in-Scheme-clause-none
+returns-in-Scheme-clause-none c =
+    let text = c.args.text.now in
+    let Refuses = λ (table : List Named). IfNone c.spell_byte_or_mnemonic-in-Scheme.result ((octets : Octets) → ByteOrMnemonic table text octets → ⊥) in
+    rw c.in-Scheme.is (subst Refuses c.schemes.ensures c.spell_byte_or_mnemonic-in-Scheme.ensures.none)
+
+pub returns-in-CertificateType-clause-none : goal.returns-in-CertificateType-clause-none
+returns-in-CertificateType-clause-none c =
+    let text = c.args.text.now in
+    let Refuses = λ (table : List Named). IfNone c.spell_short_or_mnemonic.result ((octets : Octets) → ShortOrMnemonic table text octets → ⊥) in
+    rw c.in-CertificateType.is (subst Refuses c.certificates.ensures c.spell_short_or_mnemonic.ensures.none)
+
+pub returns-in-Locator64-clause-none : goal.returns-in-Locator64-clause-none
+returns-in-Locator64-clause-none c = rw c.in-Locator64.is c.spell_locator.ensures.none
+
+pub returns-in-Eui48-clause-none : goal.returns-in-Eui48-clause-none
+returns-in-Eui48-clause-none c = rw c.in-Eui48.is c.spell_eui.ensures.none
+
+pub returns-in-Eui64-clause-none : goal.returns-in-Eui64-clause-none
+returns-in-Eui64-clause-none c = rw c.in-Eui64.is c.spell_eui-in-Eui64.ensures.none

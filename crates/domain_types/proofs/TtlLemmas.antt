@@ -1,10 +1,9 @@
 -- Times to live: sums that count no further than a limit.
-use Rattle.std.proofs.Common.{ℕ, ◌+◌, ◌<◌, ◌≡◌, refl, ap, ◌∙◌, sym, length, drop, get_or, Option, Some, None}
+use Rattle.std.proofs.Common.{ℕ, ◌+◌, ◌<◌, ◌≡◌, refl, ap, ◌∙◌, sym, length, drop, ◌∷◌, get_or, drop-cons, add-one, Option, Some, None}
 use Rattle.std.specs.{Option.option_map}
 use Rattle.domain_octets.specs.Octets.{Octets}
-use Rattle.domain_zonefile.proofs.LexemeLemmas.{split_at}
-use Rattle.domain_zonefile.specs.Ttls.{next_sum, seconds_from, seconds_of, capped_sum}
-use Rattle.domain_zonefile.specs.declared.ttl.{Sum.Sum}
+use Rattle.domain_types.specs.Ttls.{next_sum, seconds_from, seconds_of, capped_sum}
+use Rattle.domain_types.specs.declared.ttl.{Sum.Sum}
 
 -- the sum so far, as the code counts it, and the seconds from a place on
 pub record Summing (text : Octets) (n : ℕ) (sum : Sum) : Type 0 where
@@ -24,4 +23,5 @@ pub summing_more : (text : Octets) (n : ℕ) (sum next : Sum) → Summing text n
     → ((exact : Sum) → sum ≡ capped_sum exact → Some next ≡ option_map capped_sum (next_sum exact (get_or text n 0))) → Summing text (n + 1) next
 summing_more text n sum next so_far h step =
     summing_by text (n + 1) next (next_sum so_far.exact (get_or text n 0)) (step so_far.exact so_far.is)
-    (ap (seconds_from (Some so_far.exact)) (sym (split_at text n h)) ∙ so_far.same)
+    (ap (λ k. seconds_from (Some so_far.exact) (get_or text n 0 ∷ drop k text)) (add-one n)
+    ∙ ap (seconds_from (Some so_far.exact)) (sym (drop-cons text n 0 h)) ∙ so_far.same)

@@ -1,5 +1,5 @@
-use Rattle.domain_zonefile.proofs.TtlLemmas.{summing_start, summing_more}
-use Rattle.domain_zonefile.proofs.ttl.read_ttl.Goals as goal
+use Rattle.domain_types.proofs.TtlLemmas.{summing_start, summing_more}
+use Rattle.domain_types.proofs.ttl.read_ttl.Goals as goal
 
 pub loop-octet-init : goal.loop-octet-init
 loop-octet-init c = summing_start c.args.text.now

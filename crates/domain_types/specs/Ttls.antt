@@ -3,7 +3,7 @@
 use Rattle.std.specs.Prelude.{ℕ, ◌+◌, ◌-◌, ◌*◌, ◌^◌, ◌==◌, [], ◌∷◌, Option, Some, None, if◌then◌else◌, nat_lt, min, unwrap_or}
 use Rattle.std.specs.{Char.{is_ascii_digit, to_ascii_lowercase}, Option.option_map}
 use Rattle.domain_octets.specs.{Octets.Octets, Text.digit_zero}
-use Rattle.domain_zonefile.specs.declared.ttl.{Sum.Sum, TtlText.{TtlText, TheVariants.{NoTtl, TooLarge, Seconds}}}
+use Rattle.domain_types.specs.declared.ttl.{Sum.Sum, TtlText.{TtlText, TheVariants.{NoTtl, TooLarge, Seconds}}}
 
 -- the seconds of a unit in either case: a week, a day, an hour, a minute or a second
 abbrev pub unit_seconds : ℕ → Option ℕ

@@ -1,5 +1,5 @@
-use Rattle.domain_zonefile.proofs.TtlLemmas.{Summing}
-use Rattle.domain_zonefile.proofs.ttl.read_ttl.Given as goal
+use Rattle.domain_types.proofs.TtlLemmas.{Summing}
+use Rattle.domain_types.proofs.ttl.read_ttl.Given as goal
 
 -- the seconds from here on
 abbrev pub invariant-loop-octet : goal.invariant-loop-octet

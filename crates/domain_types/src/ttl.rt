@@ -1,8 +1,8 @@
 //! Times to live as text (RFC 1035, section 5.1).
 ghost use Rattle.std.specs.Prelude.{◌≡◌, ◌≤◌, ◌^◌, Some, IfSome};
 ghost use Rattle.std.specs.Option.{option_map};
-ghost use Rattle.domain_zonefile.specs.Ttls.{unit_seconds, capped, capped_sum, next_sum, whole_sum, ttl_text, sized};
-ghost use Rattle.domain_zonefile.specs.declared.ttl.Sum.{Sum};
+ghost use Rattle.domain_types.specs.Ttls.{unit_seconds, capped, capped_sum, next_sum, whole_sum, ttl_text, sized};
+ghost use Rattle.domain_types.specs.declared.ttl.Sum.{Sum};
 
 /// What a text is as a TTL.
 #[derive(Clone, Copy, Debug, PartialEq, Eq)]
