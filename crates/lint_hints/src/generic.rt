@@ -77,7 +77,7 @@ pub fn generic_form(alloc: Global, rtype: Rtype, words: &[&str]) -> Result<Strin
         Ok(()) => {}
         Err(ScanError::OutOfMemory) => return Err(AllocError),
         Err(_) => return format!(in alloc;
-            "them in the generic form, \\# COUNT HEX (RFC 3597), as denial-zone does"
+            "them in the generic form, \\# COUNT HEX (RFC 3597), as `denial zone` does"
         ),
     }
     let mut text = format!(in alloc; "\\# {} ", data.len())?;

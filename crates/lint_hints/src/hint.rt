@@ -23,11 +23,11 @@ pub fn quoted(alloc: Global, word: &[u8]) -> Result<String, AllocError> {
 
 /// What is wrong with a word that has a bracket of a zone file.
 const BRACKET: &str = "has a bracket, which groups lines: write one record a line, without \
-                       comments or brackets, as denial-zone does";
+                       comments or brackets, as `denial zone` does";
 
 /// What is wrong with a word that has a semicolon of a zone file.
 const COMMENT: &str = "has a semicolon, which begins a comment: write one record a line, without \
-                       comments or brackets, as denial-zone does";
+                       comments or brackets, as `denial zone` does";
 
 /// Returns what is wrong with a word that has a semicolon or a bracket outside of quotes and not
 /// after a backslash (RFC 1035, section 5.1). `is_quoted` says whether the word begins within
@@ -150,7 +150,7 @@ pub fn type_trouble(alloc: Global, word: &str) -> Result<String, AllocError> {
         if word.eq_ignore_ascii_case(name) {
             return format!(in alloc;
                 "is a type without a name here: write TYPE{number}, and the data in the generic \
-                 form, \\# COUNT HEX (RFC 3597), as denial-zone does"
+                 form, \\# COUNT HEX (RFC 3597), as `denial zone` does"
             );
         }
     }

@@ -32,7 +32,7 @@ pub fn explain(alloc: Global, line: &[u8]) -> Result<(usize, String), AllocError
     }
     if let Some(directive) = directive_of(&words) {
         let text = format!(in alloc;
-            "'{directive}' is a directive, which is not read here: denial-zone reads zone files"
+            "'{directive}' is a directive, which is not read here: `denial zone` reads zone files"
         )?;
         return Ok((1, text));
     }
