@@ -8,7 +8,7 @@
 use std::io::BufWriter;
 use std::process::ExitCode;
 use std::{env, io};
-use zone_program::{ZoneFault, run_zone};
+use zone_program::{ZoneFault, fault_of, run_zone};
 
 /// The number of octets that are written at a time.
 const BUFFER: usize = 65536;
@@ -16,7 +16,7 @@ const BUFFER: usize = 65536;
 /// Returns the arguments of the program.
 fn words_of(rt: &HostRuntime) -> Result<Vec<String>, ZoneFault> {
     let mut words = Vec::new(rt.alloc());
-    let args = env::args(rt).map_err(|_| ZoneFault::Usage)?;
+    let args = env::args(rt).map_err(|error| fault_of(&error, ZoneFault::Usage))?;
     for word in args.skip(1) {
         words.push(word).map_err(|_| ZoneFault::OutOfMemory)?;
     }

@@ -8,4 +8,4 @@ mod program;
 
 pub use fault::{FileFaultKind, ZoneFault};
 pub use lines::zone_lines;
-pub use program::run_zone;
+pub use program::{fault_of, run_zone};

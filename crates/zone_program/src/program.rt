@@ -13,8 +13,8 @@ use std::alloc::Global;
 use std::io;
 use std::io::{ErrorKind, Read, Write};
 
-/// Returns the fault of a device, or that memory ran out.
-fn fault_of(error: &io::Error, fault: ZoneFault) -> ZoneFault
+/// Returns the fault of a call of the system, or that memory ran out.
+pub fn fault_of(error: &io::Error, fault: ZoneFault) -> ZoneFault
     ensures { (result ≡ fault) ⊎ (result ≡ ZoneFault.OutOfMemory) }
 {
     if error.kind() == ErrorKind::OutOfMemory {
