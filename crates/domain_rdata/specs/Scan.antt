@@ -118,6 +118,12 @@ OctetsFault limit (Some kind) wire no_memory =
     (AreOfKind kind wire × IsTrue (has_name (layout_of kind)))
     ⊎ ((part : Octets) × IsPartOfData wire kind part × IsNone limit)
 
+-- why octets do not become data over octets with this limit, if only what the data hold is copied:
+-- the parts of data of a kind, or all octets of a type without a text form of its own
+abbrev pub CopiedFault : Option ℕ → Option Kind → Octets → ScanFault → Type 0
+CopiedFault limit None wire fault = CopyFault limit wire fault
+CopiedFault limit (Some kind) wire fault = OctetsFault limit (Some kind) wire fault
+
 -- what parsing the octets of a generic form as data of a kind guarantees
 pub record FromOctets {D : Type 0} (limit : Option ℕ) (kind : Kind)
     (values : D → Values (layout_of kind)) (wire : Octets) (result : Result D ScanError) : Type 0 where

@@ -1,7 +1,7 @@
 //! Data of all types, parsed from the octets of their generic form.
 #![tactic(auto, using(crate::proofs::ScanLemmas::made))]
 
-ghost use Rattle.std.specs.Prelude.{◌≡◌, ◌<◌, ◌≤◌, ◌⊎◌, [], true, Some, None, codes, length, IfOk, IfErr, OnOk};
+ghost use Rattle.std.specs.Prelude.{◌≡◌, ◌<◌, ◌≤◌, ◌⊎◌, [], true, Some, None, codes, length, IfOk, IfErr, OnOk, MatchOption};
 ghost use Rattle.domain_names.specs.Text.{illegal, scan_fault_of};
 ghost use Rattle.domain_plain.specs.Plain.{a_layout, a_values, ns_layout, ns_values, soa_layout, soa_values, mx_layout, mx_values};
 ghost use Rattle.domain_keys.specs.Keys.{key_values};
@@ -9,7 +9,7 @@ ghost use Rattle.domain_rrsig.specs.Data.{rrsig_values};
 ghost use Rattle.domain_chain_rdata.specs.Rdata.{nsec_values, nsec3_values, nsec3param_values};
 ghost use Rattle.domain_rdata.specs.Zone.{plain, key, signature, next_by_name, next_by_hash, params, kind_of};
 ghost use Rattle.domain_fields.specs.Layout.{Values, Begins, splits};
-ghost use Rattle.domain_rdata.specs.Scan.{CopyFault, FromOctets, OctetsFault, AreData};
+ghost use Rattle.domain_rdata.specs.Scan.{CopyFault, CopiedFault, FromOctets, OctetsFault, AreData};
 
 use crate::ZoneRecordData;
 use crate::zone_record_data::return_of_type;
@@ -21,6 +21,9 @@ use domain_plain::{A, Mx, Ns, Soa, UnknownRecordData};
 use domain_record::ParseRecordData;
 use domain_rrsig::Rrsig;
 use std::alloc::Global;
+
+/// The greatest number of octets of data (RFC 1035, section 3.2.1).
+const MAX_DATA: usize = 65_535;
 
 /// Returns a name with the labels of another, in octets of its own.
 fn name_like<N: MakeName, M: ToName>(alloc: Global, name: &M) -> Result<N, OutOfMemory>
@@ -35,6 +38,22 @@ fn octets_like<O: FromBuilder>(alloc: Global, octets: &[u8]) -> Result<O, ScanEr
     ensures err { IfErr result (λ e. CopyFault O.Builder.limit octets.now (scan_fault_of e)) }
 {
     Ok(O::from_octets(alloc, octets)?)
+}
+
+/// Copies octets as data of a type. The only errors are `ShortBuf` and `OutOfMemory`.
+fn unknown_of<O: FromBuilder + Drop>(
+    alloc: Global,
+    rtype: Rtype,
+    octets: &[u8],
+) -> Result<UnknownRecordData<O>, ScanError>
+    requires { length octets.now ≤ 65535 }
+    ensures ok { IfOk result (λ d. (d.rtype ≡ rtype) × (O.octets d.«data» ≡ octets.now)) }
+    ensures err { IfErr result (λ e. CopyFault O.Builder.limit octets.now (scan_fault_of e)) }
+{
+    let Ok(data) = UnknownRecordData::from_octets(rtype, octets_like(alloc, octets)?) else {
+        unreachable!();
+    };
+    Ok(data)
 }
 
 /// The octets are not data of the wanted type, or continue after such data.
@@ -216,6 +235,37 @@ impl<O: FromBuilder, N: ToName> ZoneRecordData<O, N> {
         }
     }
 
+    /// Parses all of the octets as data of a type that has a variant of its own, and copies the
+    /// parts that such data hold. Returns None for another type.
+    ///
+    /// # Errors
+    ///
+    /// - `Custom("illegal data")` if and only if the octets are not data of the type.
+    /// - `ShortBuf` or `OutOfMemory` if they are, and a part has no room or no memory.
+    fn known_of(alloc: Global, rtype: Rtype, octets: &[u8]) -> Result<Option<Self>, ScanError>
+    where
+        O: Drop,
+        N: MakeName + Drop,
+        ensures ok { IfOk result (λ found. MatchOption found (kind_of rtype ≡ None)
+            (AreData O.octets N.labels rtype octets.now)) }
+        ensures err { IfErr result (λ e.
+            OctetsFault O.Builder.limit (kind_of rtype) octets.now (scan_fault_of e)) }
+    {
+        return_of_type!(some rtype;
+            A => A(a_of(octets)?),
+            NS => Ns(ns_of(alloc, octets)?),
+            SOA => Soa(soa_of(alloc, octets)?),
+            MX => Mx(mx_of(alloc, octets)?),
+            DNSKEY => Dnskey(key_of(alloc, octets)?),
+            DS => Ds(key_of(alloc, octets)?),
+            RRSIG => Rrsig(rrsig_of(alloc, octets)?),
+            NSEC => Nsec(nsec_of(alloc, octets)?),
+            NSEC3 => Nsec3(nsec3_of(alloc, octets)?),
+            NSEC3PARAM => Nsec3param(nsec3param_of(alloc, octets)?),
+            _ => Ok(None)
+        )
+    }
+
     /// Parses all octets of a generic form as data of its type.
     ///
     /// # Errors
@@ -232,20 +282,39 @@ impl<O: FromBuilder, N: ToName> ZoneRecordData<O, N> {
             OctetsFault O.Builder.limit (kind_of «data».rtype) (O.octets «data».«data»)
             (scan_fault_of e)) }
     {
-        let octets = data.data().as_slice();
-        let rtype = data.rtype();
-        return_of_type!(rtype;
-            A => A(a_of(octets)?),
-            NS => Ns(ns_of(alloc, octets)?),
-            SOA => Soa(soa_of(alloc, octets)?),
-            MX => Mx(mx_of(alloc, octets)?),
-            DNSKEY => Dnskey(key_of(alloc, octets)?),
-            DS => Ds(key_of(alloc, octets)?),
-            RRSIG => Rrsig(rrsig_of(alloc, octets)?),
-            NSEC => Nsec(nsec_of(alloc, octets)?),
-            NSEC3 => Nsec3(nsec3_of(alloc, octets)?),
-            NSEC3PARAM => Nsec3param(nsec3param_of(alloc, octets)?),
-            _ => Ok(ZoneRecordData::Unknown(data))
-        )
+        match Self::known_of(alloc, data.rtype(), data.data().as_slice())? {
+            Some(known) => Ok(known),
+            None => Ok(ZoneRecordData::Unknown(data)),
+        }
+    }
+
+    /// Parses all of the octets as data of a type in wire form, as `from_octets` does. Copies only
+    /// what the data hold: the parts of a known type, or all octets of another type.
+    ///
+    /// # Errors
+    ///
+    /// - `Custom("record data too long")` if and only if there are more than 65,535 octets.
+    /// - `Custom("illegal data")` if and only if the octets, at most 65,535, are not data of the
+    ///   type.
+    /// - `ShortBuf` or `OutOfMemory` if they are data of the type, and what is copied has no room or
+    ///   no memory.
+    pub fn copy_from(alloc: Global, rtype: Rtype, octets: &[u8]) -> Result<Self, ScanError>
+    where
+        O: Drop,
+        N: MakeName + Drop,
+        ensures ok { IfOk result (AreData O.octets N.labels rtype octets.now) }
+        ensures fits { OnOk result (length octets.now ≤ 65535) }
+        ensures err { IfErr result (λ e. ((65535 < length octets.now)
+            × (scan_fault_of e ≡ illegal (codes "record data too long")))
+            ⊎ ((length octets.now ≤ 65535) × CopiedFault O.Builder.limit (kind_of rtype)
+            octets.now (scan_fault_of e))) }
+    {
+        if octets.len() > MAX_DATA {
+            return Err(ScanError::Custom("record data too long"));
+        }
+        match Self::known_of(alloc, rtype, octets)? {
+            Some(known) => Ok(known),
+            None => Ok(ZoneRecordData::Unknown(unknown_of(alloc, rtype, octets)?)),
+        }
     }
 }

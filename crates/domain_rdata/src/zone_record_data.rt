@@ -94,11 +94,17 @@ macro_rules! with_types {
 }
 
 /// Returns from the function with the data of the row whose type matches, or evaluates to the last
-/// expression if no row matches.
+/// expression if no row matches. With `some`, the data are in a `Some`.
 macro_rules! return_of_type {
     ($rtype:expr; $($number:ident => $data:ident($made:expr),)* _ => $other:expr) => {{
         $(if $rtype == Rtype::$number {
             return Ok(ZoneRecordData::$data($made));
+        })*
+        $other
+    }};
+    (some $rtype:expr; $($number:ident => $data:ident($made:expr),)* _ => $other:expr) => {{
+        $(if $rtype == Rtype::$number {
+            return Ok(Some(ZoneRecordData::$data($made)));
         })*
         $other
     }};
