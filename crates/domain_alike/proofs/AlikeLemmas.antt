@@ -11,7 +11,7 @@ use Rattle.domain_zone.proofs.{PairLemmas.{ascending, irreflexive}, NameLemmas.{
 use Rattle.domain_zone.proofs.WalkLemmas.{any_in, ascending_filter, in_any, after_or, all_both, any_map, filter_none, weaker}
 use Rattle.domain_nsec3.{specs.{Steps.IsListOf, Chain.{ChainConfig, HashAnswer, hash_of, HasCollision, is_chain_name}}, proofs.ChainLemmas.hash_same}
 use Rattle.domain_nsec3.proofs.OwnerLemmas.{sorted}
-use Rattle.domain_alike.specs.Alike.{pair_of, AreAlike, IsAlike, IsFirstAlike, IsFirstPair, IsFirstChainRefusal, Pair, first_before, first_with, is_hash}
+use Rattle.domain_alike.specs.Alike.{pair_of, AreAlike, AreHashed, IsAlike, IsFirstAlike, IsFirstPair, IsFirstChainRefusal, Pair, first_before, first_with, is_hash}
 use Rattle.domain_alike.specs.{Alike.{pair_with, ArePairs, HasHash}, declared.alike.Alike.Alike}
 
 -- ---- hashes
@@ -110,6 +110,12 @@ module _ (L : List ZoneRecord) (a : Name) (config : ChainConfig) (names : List N
             (has_first s.hashed m.0 k.0 m.1 k.1 low alike)) m.2;
         ascend = sorted _ (subst (IsAscending before) (sym lasts) (ascending_filter before (λ n. is_some (first_of n)) names up));
       }
+
+  pub all_hashed : (pairs : List Pair) → ArePairs config.hash names names pairs → AreHashed L a config
+  all_hashed pairs s x c =
+      let m = listed x c in
+      let known = all_in (HasHash config.hash) names m.0 s.hashed m.1 in
+      (known.0, sym (hash_same config.hash m.0 x m.2) ∙ known.1)
 
   -- at a name, where the pairs of those before it are known
   module _ (i : ℕ) (n : Name) (pairs : List Pair) (l : i < length names) (is : n ≡ get_or names i n)

@@ -38,6 +38,11 @@ pub record AreAlike (L : List ZoneRecord) (a : Name) (config : ChainConfig) (pai
       → list_any (λ p. same_name p.0 x) pairs ≡ true
   pub ascend : IsStrictlySortedBy canonical_cmp (map (λ p. p.0) pairs)
 
+-- the hasher returns a hash for each name of the chain
+abbrev pub AreHashed : List ZoneRecord → Name → ChainConfig → Type 0
+AreHashed L a config =
+    (x : Name) → is_chain_name L a config x ≡ true → (h : Octets) × (hash_of config x ≡ Ok h)
+
 -- such a pair, whose name is the first in canonical order that has the hash of an earlier name
 pub record IsFirstAlike (L : List ZoneRecord) (a : Name) (config : ChainConfig) (pair : Pair)
     : Type 0 where

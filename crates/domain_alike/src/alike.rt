@@ -1,10 +1,10 @@
 //! Names of a chain that have the same hash.
-ghost use Rattle.std.specs.Prelude.{◌≡◌, ◌++◌, ◌∷◌, [], List, Ok, IfErr, IfOk, map, option_map};
+ghost use Rattle.std.specs.Prelude.{◌≡◌, ◌++◌, ◌∷◌, [], List, Ok, IfErr, IfOk, OnOk, map, option_map};
 ghost use Rattle.domain_names.specs.Name.{Name};
 ghost use Rattle.domain_nsec3.specs.{Chain.{Hash, hash_name}, View.config_of};
 ghost use Rattle.domain_records.specs.Order.{IsInOrder};
 ghost use Rattle.domain_borrowed.specs.Data.{zone_of_raw};
-ghost use Rattle.domain_alike.specs.Alike.{pair_of, AreAlike, IsFirstPair, IsFirstChainRefusal, IsRefusedBy};
+ghost use Rattle.domain_alike.specs.Alike.{pair_of, AreAlike, AreHashed, IsFirstPair, IsFirstChainRefusal, IsRefusedBy};
 ghost use Rattle.domain_alike.specs.Alike.{first_with, AreFirstNames};
 
 use crate::chain_names::chain_names;
@@ -63,6 +63,8 @@ pub fn alike_names<'a, O: Octets, S, H: Nsec3Hasher>(
     requires { IsInOrder (λ n. n) (λ d. d.rtype) sorted.now }
     ensures ok { IfOk result (λ pairs. AreAlike (zone_of_raw sorted.now) apex.now (config_of
         (H.answer hasher.now) config.now) (map pair_of pairs.items)) }
+    ensures hashed { OnOk result (AreHashed (zone_of_raw sorted.now) apex.now (config_of
+        (H.answer hasher.now) config.now)) }
     ensures err { IfErr result (IsRefusedBy (IsFirstChainRefusal (zone_of_raw sorted.now) apex.now
         (config_of (H.answer hasher.now) config.now))) }
 {
@@ -103,6 +105,8 @@ pub fn first_alike<'a, O: Octets, S, H: Nsec3Hasher>(
     requires { IsInOrder (λ n. n) (λ d. d.rtype) sorted.now }
     ensures ok { IfOk result (λ alike. IsFirstPair (zone_of_raw sorted.now) apex.now (config_of
         (H.answer hasher.now) config.now) (option_map pair_of alike)) }
+    ensures hashed { OnOk result (AreHashed (zone_of_raw sorted.now) apex.now (config_of
+        (H.answer hasher.now) config.now)) }
     ensures err { IfErr result (IsRefusedBy (IsFirstChainRefusal (zone_of_raw sorted.now) apex.now
         (config_of (H.answer hasher.now) config.now))) }
 {

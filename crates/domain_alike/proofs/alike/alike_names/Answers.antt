@@ -2,7 +2,7 @@ use Rattle.std.proofs.{Common.{Ok, ◌≡◌, ◌&&◌, ◌++◌, ap, inl, inr, 
 use Rattle.domain_octets.proofs.StdLemmas.{if_err_of}
 use Rattle.domain_nsec3.specs.{Steps.IsListOf, Chain.{hash_name, is_chain_name}, View.config_of}
 use Rattle.domain_borrowed.specs.Data.{zone_of_raw}
-use Rattle.domain_alike.{specs.Alike.{pair_of, IsFirstChainRefusal, IsRefusedBy, pair_with}, proofs.AlikeLemmas.{alike_are, first_refusal, pairs_more}}
+use Rattle.domain_alike.{specs.Alike.{pair_of, IsFirstChainRefusal, IsRefusedBy, pair_with, ArePairs}, proofs.AlikeLemmas.{alike_are, all_hashed, first_refusal, pairs_more}}
 use Rattle.domain_alike.proofs.alike.alike_names.{Given.Over, Goals.{After-deref-name-items, in-Some+in_ok-later+in_ok-push, in_default}}
 use Rattle.domain_alike.proofs.alike.alike_names.Goals as goal
 
@@ -33,6 +33,14 @@ pub returns-clause-ok : goal.returns-clause-ok
 returns-clause-ok g c =
     alike_are _ _ (config_of (g.H.Nsec3Hasher.answer c.args.hasher.now) c.args.config.now) c.deref-name-items.result.now
     (chain_list g (goal.at.returns-clause-ok g c).After-deref-name-items) _ (grind (arith, common_steps, c.loop-name.invariant.0))
+
+pub returns-clause-hashed : goal.returns-clause-hashed
+returns-clause-hashed g c =
+    let config = config_of (g.H.Nsec3Hasher.answer c.args.hasher.now) c.args.config.now in
+    let names = c.deref-name-items.result.now in
+    let pairs = map pair_of c.loop-name.pairs.items in
+    let told : ArePairs config.hash names names pairs = grind (arith, common_steps, c.loop-name.invariant.0) in
+    all_hashed (zone_of_raw c.args.sorted.now) c.args.apex.now config names (chain_list g (goal.at.returns-clause-hashed g c).After-deref-name-items) pairs told
 
 pub returns-in_err-hash-clause-err : goal.returns-in_err-hash-clause-err
 returns-in_err-hash-clause-err g c =
