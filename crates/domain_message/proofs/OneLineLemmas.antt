@@ -106,7 +106,7 @@ module _ {O N : Type 0} (octets : O → Octets) (labels : N → Name) where
       → RefusesLine octets labels limit line e → IsOfLine limit e → EntryLineText octets labels line r → ⊥
   none_where_refused limit line e r (no_entry none is) own x = x.seen none
   none_where_refused limit line e r (in_entry seen why) own x = none_in limit (words_of line) r e why own x.spelled
-  none_where_refused limit line e r (no_memory is) own x = subst (IsOfLine limit) is own
+  none_where_refused limit line e r (no_memory seen is) own x = subst (IsOfLine limit) is own
 
 -- ---- why a line spells no record, from what is refused of its tokens
 

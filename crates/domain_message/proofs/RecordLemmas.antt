@@ -2,18 +2,19 @@
 use Rattle.std.proofs.lemmas.{Grind.common_steps, List.{append-nil, append_assoc, length-drop, length-take, take_at, take-take, take-append-drop}}
 use Rattle.std.proofs.{lemmas.List.{drop-take, drop-drop}, Common.{◌≡◌, ℕ, ◌+◌, ◌-◌, ◌<◌, ◌≤◌, ◌^◌, List, [], ◌∷◌, ◌++◌, length, take, drop, length-append}}
 use Rattle.std.proofs.Common.{arith, ap, sym, subst, ◌∙◌, refl, inl, inr, Result, Ok, Err, IfOk, IfErr}
-use Rattle.std.specs.{Prelude.{Option, Some, None, Bool, true, false, slice_index}, Int.{w16, to_be_bytes}}
+use Rattle.std.specs.{Prelude.{◌⊎◌, Option, Some, None, Bool, true, false, slice_index}, Int.{w16, to_be_bytes}}
 use Rattle.domain_octets.specs.Octets.{Octets}
-use Rattle.domain_names.specs.{Wire.Fault, Name.{Name, wire_of, IsName}}
+use Rattle.domain_names.specs.{Wire.Fault, Name.{Name, wire_of, IsName}, Text.{entry_ends, illegal, no_room, no_memory}}
 use Rattle.domain_fields.{specs.Layout.{Values, Begins, FirstFault, in_field, in_first, in_later, octets_of, one, long, ◌▸◌}, proofs.ExactLemmas.one_reading}
 use Rattle.domain_record.specs.declared.record.Record.{Record}
 use Rattle.domain_rdata.specs.{Zone.{Kind, kind_of, rtype_of, wire_octets}, declared.zone_record_data.ZoneRecordData.ZoneRecordData}
 use Rattle.domain_rdata.{proofs.ScanLemmas.{AreOf, are_of}, specs.declared.zone_record_data.ZoneRecordData.TheVariants.{Ns, Soa, Mx, Unknown}}
-use Rattle.domain_rdata.{proofs.ScanLemmas.are_wire, specs.Scan.AreData}
+use Rattle.domain_rdata.{proofs.ScanLemmas.are_wire, specs.Scan.{AreData, CopiedFault}}
 use Rattle.domain_message.specs.Data.{compressed_parts, has_rest, DataAt, PartAt, PartsAt, PartFault, PartsFault, MayEnd, WholeAt, PlacedAt, OctetsAt}
 use Rattle.domain_message.specs.Data.{text_count}
-use Rattle.domain_message.specs.Record.{numbers, IsSameRecord, HeaderAt, HeaderFault, in_owner, cut_numbers, IsDataAt, IsOfMessage, RecordAt, OctetsRefusal}
+use Rattle.domain_message.specs.Record.{numbers, IsSameRecord, HeaderAt, HeaderFault, in_owner, cut_numbers, IsDataAt, IsOfMessage, RecordAt, OctetsRefusal, AreLegal}
 use Rattle.domain_message.specs.Record.{RefusesRecordData, RefusesRecord, cut, in_part, other_end, too_long, in_header, in_data, in_octets}
+use Rattle.domain_message.specs.declared.error.MessageError.TheVariants.{IllegalData, ShortBuf, OutOfMemory}
 use Rattle.domain_message.specs.declared.{error.MessageError.MessageError, parts.Part.Part, name.NameFault.NameFault}
 use Rattle.domain_message.{proofs.NameLemmas.{one_name, no_fault, in_full_at, past}, specs.Written.{HasExactWire, record_octets}}
 use Rattle.domain_message.specs.Written.{IsPartInFull, ArePartsInFull, AreInFull}
@@ -31,13 +32,14 @@ take_both n m xs =
 
 module _ (limit : Option ℕ) (message : List ℕ) (rtype place count : ℕ) (inside : place + count ≤ length message) where
   pub copy_refused : {O : Type 0} (wire : List ℕ) (r : Result O MessageError) → DataAt message rtype place count wire → length wire ≤ 65535
-      → IfErr r (λ e. (known : Option Kind) → OctetsRefusal limit known wire e) → IfErr r (RefusesRecordData limit message rtype place count)
-  copy_refused wire r placed fits h = on_err (λ e why. in_octets inside wire placed fits (why _)) r h
+      → IfErr r (OctetsRefusal limit (kind_of rtype) wire) → IfErr r (RefusesRecordData limit message rtype place count)
+  copy_refused wire r placed fits h = on_err (λ e why. in_octets inside wire placed fits why) r h
 
-  pub copy_placed : {O : Type 0} (f : O → List ℕ) (wire : List ℕ) (r : Result O MessageError) → DataAt message rtype place count wire
-      → IfOk r (λ o. f o ≡ wire) → IfOk r (λ o. DataAt message rtype place count (f o))
-  copy_placed f wire (Ok o) at same = subst (DataAt message rtype place count) (sym same) at
-  copy_placed f wire (Err e) at same = tt
+  pub copy_read : {O N : Type 0} (octets : O → Octets) (labels : N → Name) (wire : List ℕ) (r : Result (ZoneRecordData O N) MessageError)
+      → DataAt message rtype place count wire → length wire ≤ 65535 → IfOk r (AreData octets labels rtype wire)
+      → IfOk r (IsDataAt octets labels message rtype place count)
+  copy_read octets labels wire (Ok d) placed fits are = record { wire = wire; inside = inside; placed = placed; fits = fits; read = are }
+  copy_read octets labels wire (Err e) placed fits are = tt
 
   placed_as : (ps : Option (List Part)) (wire : List ℕ) → compressed_parts rtype ≡ ps → PlacedAt message ps (has_rest rtype) place count wire
       → DataAt message rtype place count wire
@@ -157,9 +159,51 @@ one_record octets labels message at r s e f x y =
       x.end_is ∙ (λ i. same.2 i + (values i).1.1.1) ∙ sym y.end_is,
     )
 
+-- ---- why data are not copied, as the error of a message
+
+module _ (limit : Option ℕ) (wire : List ℕ) where
+  pub copied_ends : (known : Option Kind) → CopiedFault limit known wire entry_ends → OctetsRefusal limit known wire IllegalData
+  copied_ends None why = absurd why
+  copied_ends (Some kind) why = absurd why
+
+  pub copied_illegal : (known : Option Kind) (said : List ℕ) → CopiedFault limit known wire (illegal said) → OctetsRefusal limit known wire IllegalData
+  copied_illegal None said why = absurd why
+  copied_illegal (Some kind) said why = why.1
+
+  pub copied_short : (known : Option Kind) → CopiedFault limit known wire no_room → OctetsRefusal limit known wire ShortBuf
+  copied_short None why = why
+  copied_short (Some kind) why = why
+
+  pub copied_memory : (known : Option Kind) → CopiedFault limit known wire no_memory → OctetsRefusal limit known wire OutOfMemory
+  copied_memory None why = tt
+  copied_memory (Some kind) (inl own) = own.0
+  copied_memory (Some kind) (inr part) = (part.1.values, part.1.whole)
+
+-- data of a type are legal, and octets of a type with a rest are data of it
+pub legal : (known : Option Kind) (wire : List ℕ) → AreOf known wire → AreLegal known wire
+legal None wire are = tt
+legal (Some kind) wire are = are
+
+pub legal_with_rest : (t : ℕ) (wire : List ℕ) → has_rest t ≡ true → AreLegal (kind_of t) wire
+legal_with_rest t wire rest =
+    let which : (t ≡ 24) ⊎ (t ≡ 30) = grind arith in
+    elim which [
+      | inl sig ↦ subst (λ n. AreLegal (kind_of n) wire) (sym sig) tt
+      | inr nxt ↦ subst (λ n. AreLegal (kind_of n) wire) (sym nxt) tt
+    ]
+
+-- data whose parts end before them have a rest
+pub goes_beyond : (rest : Bool) (end stop : ℕ) → MayEnd rest end stop → (end ≡ stop → ⊥) → rest ≡ true
+goes_beyond true end stop may apart = refl
+goes_beyond false end stop may apart = absurd (apart may)
+
 no_octets : (limit : Option ℕ) (known : Option Kind) (wire : List ℕ) (e : MessageError) → OctetsRefusal limit known wire e
     → IsOfMessage e → AreOf known wire → ⊥
-no_octets limit known wire e why own are = grind (arith, common_steps)
+no_octets limit known wire IllegalData why own are = why (legal known wire are)
+no_octets limit known wire ShortBuf why own are = own.not_room refl
+no_octets limit known wire OutOfMemory why own are = own.not_memory refl
+no_octets limit None wire _ why own are = why
+no_octets limit (Some kind) wire _ why own are = why
 
 module _ {O N : Type 0} (octets : O → Octets) (labels : N → Name) (limit : Option ℕ) (message : List ℕ) where
   no_data : (rtype place count : ℕ) (e : MessageError) (d : ZoneRecordData O N) → RefusesRecordData limit message rtype place count e

@@ -97,7 +97,7 @@ IsOfLine limit (RecordData e) = IsOfTokens limit (scan_fault_of e)
 IsOfLine limit OutOfMemory = ⊥
 IsOfLine limit _ = Unit {0}
 
--- why a line does not spell a record
+-- why a line does not spell a record; a blank line and a comment are never reported as out of memory
 pub data RefusesLine {O N : Type 0} (octets : O → Octets) (labels : N → Name) (limit : Option ℕ)
     (line : Octets) (error : LineError) : Type 0 where
   no_entry : IsNoEntry (words_of line) → error ≡ NoEntry
@@ -105,4 +105,5 @@ pub data RefusesLine {O N : Type 0} (octets : O → Octets) (labels : N → Name
   in_entry : (IsNoEntry (words_of line) → ⊥)
       → RefusesRecordText octets labels limit (words_of line) error
       → RefusesLine octets labels limit line error
-  no_memory : error ≡ OutOfMemory → RefusesLine octets labels limit line error
+  no_memory : (IsNoEntry (words_of line) → ⊥) → error ≡ OutOfMemory
+      → RefusesLine octets labels limit line error

@@ -1,6 +1,6 @@
 -- records in a message (RFC 1035, section 4.1.3), when two are alike, and why no record is read at
 -- a place
-use Rattle.std.specs.Prelude.{◌≡◌, ◌≢◌, ◌⊎◌, ℕ, ◌+◌, ◌<◌, ◌≤◌, List, length, drop, Option, Some}
+use Rattle.std.specs.Prelude.{◌≡◌, ◌≢◌, ◌⊎◌, ℕ, ◌+◌, ◌<◌, ◌≤◌, List, length, drop, Option, Some, None}
 use Rattle.domain_octets.specs.{Octets.{IsOver, Octets}, declared.error.AppendError.AppendError}
 use Rattle.domain_octets.specs.declared.error.AppendError.TheVariants as append_error
 use Rattle.domain_names.specs.Name.{Name}
@@ -74,16 +74,20 @@ pub record RecordAt {O N : Type 0} (octets : O → Octets) (labels : N → Name)
   pub holds : IsDataAt octets labels message rtype place count r.«data»
   pub end_is : end ≡ place + count
 
--- why octets do not become data of a type of this kind: they are not such data, or they or a part
--- of them have no room, or there is no memory
+-- the octets are data of a type of this kind; any octets are data of a type without a kind
+abbrev pub AreLegal : Option Kind → Octets → Type 0
+AreLegal None wire = Unit {0}
+AreLegal (Some kind) wire = AreOfKind kind wire
+
+-- why octets do not become data of a type of this kind: they are not such data; or they are, and
+-- what is copied has no room, or there is no memory. What is copied is a part of data of a kind, or
+-- all octets of a type without a kind.
 abbrev pub OctetsRefusal : Option ℕ → Option Kind → Octets → MessageError → Type 0
-OctetsRefusal limit known wire IllegalData =
-    (kind : Kind) × (known ≡ Some kind) × (AreOfKind kind wire → ⊥)
-OctetsRefusal limit known wire ShortBuf =
-    IsOver limit (length wire)
-    ⊎ ((kind : Kind) × (part : Octets) × (known ≡ Some kind) × IsPartOfData wire kind part
-    × IsOver limit (length part))
-OctetsRefusal limit known wire OutOfMemory = Unit {0}
+OctetsRefusal limit known wire IllegalData = AreLegal known wire → ⊥
+OctetsRefusal limit None wire ShortBuf = IsOver limit (length wire)
+OctetsRefusal limit (Some kind) wire ShortBuf =
+    (part : Octets) × IsPartOfData wire kind part × IsOver limit (length part)
+OctetsRefusal limit known wire OutOfMemory = AreLegal known wire
 OctetsRefusal limit known wire _ = ⊥
 
 -- why no data of a type are read from `count` octets at a place: the message ends within them; a

@@ -2,8 +2,8 @@
 ghost use Rattle.std.specs.Prelude.{◌≡◌, ◌≤◌, ◌<◌, ◌+◌, ◌++◌, ◌↔◌, ℕ, Option, Some, length, IfOk, IfErr, IsTrue};
 ghost use Rattle.domain_octets.specs.Octets.{Octets};
 ghost use Rattle.domain_names.specs.Text.{scan_fault_of};
-ghost use Rattle.domain_rdata.specs.{Zone.Kind, Scan.OctetsFault};
-ghost use Rattle.domain_message.specs.{Data.{compressed_parts, parts_room, OctetsAt, DataAt}, Record.IsDataAt};
+ghost use Rattle.domain_rdata.specs.{Zone.{Kind, kind_of}, Scan.{AreData, CopiedFault}};
+ghost use Rattle.domain_message.specs.{Data.{compressed_parts, parts_room, OctetsAt}, Record.IsDataAt};
 ghost use Rattle.domain_message.specs.Record.{RecordAt, OctetsRefusal, RefusesRecordData, RefusesRecord};
 
 use crate::MessageError;
@@ -18,13 +18,35 @@ use std::alloc::Global;
 /// The greatest number of octets of data.
 const MAX_DATA_LEN: usize = 65_535;
 
-/// Returns a copy of octets.
-fn copied<O: FromBuilder>(alloc: Global, octets: &[u8]) -> Result<O, MessageError>
-    ensures ok { IfOk result (λ made. O.octets made ≡ octets.now) }
-    ensures err { IfErr result (λ e. (known : Option Kind)
-        → OctetsRefusal O.Builder.limit known octets.now e) }
+/// Returns the error of a message for an error of parsing octets as data.
+#[tactic(auto, using(crate::proofs::RecordLemmas::copied_ends, crate::proofs::RecordLemmas::copied_illegal, crate::proofs::RecordLemmas::copied_short, crate::proofs::RecordLemmas::copied_memory))]
+fn refusal(error: ScanError) -> MessageError
+    ensures { (limit : Option ℕ) (known : Option Kind) (wire : Octets)
+        → CopiedFault limit known wire (scan_fault_of error)
+        → OctetsRefusal limit known wire result }
 {
-    Ok(O::from_octets(alloc, octets)?)
+    match error {
+        ScanError::ShortBuf => MessageError::ShortBuf,
+        ScanError::OutOfMemory => MessageError::OutOfMemory,
+        ScanError::Custom(_) => MessageError::IllegalData,
+        ScanError::EndOfEntry => MessageError::IllegalData,
+    }
+}
+
+/// Returns the data of a type with these octets.
+fn data_of<O: FromBuilder + Drop, N: MakeName + Drop>(
+    alloc: Global,
+    rtype: Rtype,
+    octets: &[u8],
+) -> Result<ZoneRecordData<O, N>, MessageError>
+    requires { length octets.now ≤ 65535 }
+    ensures ok { IfOk result (AreData O.octets N.labels rtype octets.now) }
+    ensures err { IfErr result (OctetsRefusal O.Builder.limit (kind_of rtype) octets.now) }
+{
+    match ZoneRecordData::copy_from(alloc, rtype, octets) {
+        Ok(data) => Ok(data),
+        Err(error) => Err(refusal(error)),
+    }
 }
 
 /// Returns whether octets are those of the message from place `at` up to place `end`.
@@ -45,23 +67,21 @@ fn joined(alloc: Global, front: &[u8], rest: &[u8]) -> Result<Vec<u8>, OutOfMemo
     Ok(whole)
 }
 
-/// Returns the octets of the parts and of the rest of the data of a type at a place, without
-/// compression. Gathers them in memory of their own only if a part is compressed and a rest
-/// follows.
-fn whole_at<O: FromBuilder>(
+/// Returns the data of a type at a place that consist of parts and perhaps a rest. Gathers their
+/// octets in memory of their own only if a part is compressed and a rest follows.
+fn whole_at<O: FromBuilder + Drop, N: MakeName + Drop>(
     alloc: Global,
     message: &[u8],
     rtype: Rtype,
     parts: &[Part],
     place: usize,
     count: usize,
-) -> Result<O, MessageError>
+) -> Result<ZoneRecordData<O, N>, MessageError>
     requires inside { place + count ≤ length message.now }
     requires short { count < 65536 }
     requires some { compressed_parts rtype ≡ Some parts.now }
     requires room { parts_room parts.now ≤ 1027 }
-    ensures ok { IfOk result (λ o. DataAt message.now rtype place count (O.octets o)) }
-    ensures fits { IfOk result (λ o. length (O.octets o) ≤ 65535) }
+    ensures ok { IfOk result (IsDataAt O.octets N.labels message.now rtype place count) }
     ensures err { IfErr result (RefusesRecordData O.Builder.limit message.now rtype place count) }
 {
     let mut expanded = ArrayBuilder::new();
@@ -76,45 +96,30 @@ fn whole_at<O: FromBuilder>(
         return Err(MessageError::IllegalData);
     }
     if rest.is_empty() {
-        return copied(alloc, front);
+        return data_of(alloc, rtype, front);
     }
     if are_octets_at(message, place, end, front) {
-        return copied(alloc, &message[place..stop]);
+        return data_of(alloc, rtype, &message[place..stop]);
     }
-    copied(alloc, joined(alloc, front, rest)?.as_slice())
+    data_of(alloc, rtype, joined(alloc, front, rest)?.as_slice())
 }
 
-/// Returns the octets of the data of a type at a place, without compression.
-fn octets_at<O: FromBuilder>(
+/// Returns the data of a type at a place, whose octets the message has.
+fn data_within<O: FromBuilder + Drop, N: MakeName + Drop>(
     alloc: Global,
     message: &[u8],
     rtype: Rtype,
     place: usize,
     count: usize,
-) -> Result<O, MessageError>
+) -> Result<ZoneRecordData<O, N>, MessageError>
     requires inside { place + count ≤ length message.now }
     requires short { count < 65536 }
-    ensures ok { IfOk result (λ o. DataAt message.now rtype place count (O.octets o)) }
-    ensures fits { IfOk result (λ o. length (O.octets o) ≤ 65535) }
+    ensures ok { IfOk result (IsDataAt O.octets N.labels message.now rtype place count) }
     ensures err { IfErr result (RefusesRecordData O.Builder.limit message.now rtype place count) }
 {
     match compressed_parts(rtype) {
         Some(parts) => whole_at(alloc, message, rtype, parts, place, count),
-        None => copied(alloc, &message[place..place + count]),
-    }
-}
-
-/// Returns the error of a message for an error of parsing octets as data.
-fn refusal(error: ScanError) -> MessageError
-    ensures { (limit : Option ℕ) (known : Option Kind) (wire : Octets)
-        → OctetsFault limit known wire (scan_fault_of error)
-        → OctetsRefusal limit known wire result }
-{
-    match error {
-        ScanError::ShortBuf => MessageError::ShortBuf,
-        ScanError::OutOfMemory => MessageError::OutOfMemory,
-        ScanError::Custom(_) => MessageError::IllegalData,
-        ScanError::EndOfEntry => MessageError::IllegalData,
+        None => data_of(alloc, rtype, &message[place..place + count]),
     }
 }
 
@@ -134,11 +139,7 @@ fn data_at<O: FromBuilder + Drop, N: MakeName + Drop>(
     if count > message.len() - place {
         return Err(MessageError::ShortInput);
     }
-    let octets: O = octets_at(alloc, message, rtype, place, count)?;
-    match ZoneRecordData::from_octets(alloc, rtype, octets) {
-        Ok(data) => Ok(data),
-        Err(error) => Err(refusal(error)),
-    }
+    data_within(alloc, message, rtype, place, count)
 }
 
 /// Returns the record at a place of a message (RFC 1035, section 4.1.3), in octets of its own, and
@@ -157,11 +158,11 @@ fn data_at<O: FromBuilder + Drop, N: MakeName + Drop>(
 ///   and NXT may continue after the name.
 /// - `IllegalData` if the octets are not data of the type, or are more than 65,535 without
 ///   compression.
-/// - `ShortBuf` if the octets of the data, or a part that is held in octets of its own, have no
-///   room in their builder.
+/// - `ShortBuf` if a part that data of a known type hold in octets of its own, or the octets of
+///   other data, have no room in their builder.
 ///
 /// `OutOfMemory` if there is no memory. The record then has none of these faults, except perhaps
-/// `IllegalData` or `ShortBuf`.
+/// `ShortBuf`.
 #[tactic(auto, using(std::proofs::lemmas::Grind::common_steps, crate::proofs::NameLemmas::wire_steps))]
 pub fn read_record<O: FromBuilder + Drop, N: MakeName + Drop>(
     alloc: Global,
