@@ -5,7 +5,11 @@ use Rattle.std.{proofs.lemmas.List.{map-append, Elements.filter-append}, specs.{
 use Rattle.domain_borrowed.{specs.Data.{RawRecord, zone_of_raw, raw_record_octets, IsRecord}, proofs.DataLemmas.{same_record, some_octets}}
 use Rattle.domain_zone.{proofs.{PairLemmas.{from_map, in_filtered, in_middle, In, all_in}, WalkLemmas.{all_both, all_front, weaker}}, specs.Zone.ZoneRecord}
 use Rattle.denial_c.specs.Result.{EncodeKept, EncodeNsecs, IsReadFault, EncodesName, first_parameters, is_known, told_or_fault, AreAsked, HashedQuestion}
-use Rattle.denial_c.specs.{Result.{IsHashedResult, Source, IsSpelled, IsNsecAnswer}, Chains.{EncodeRecords, BeginsNone, IsOfClass, AreSorted, IsChainFault}}
+use Rattle.denial_c.specs.Result.{IsExpansionAnswer, IsNsec3Answer, IsNsec3Fault, IsNsec3Result, sha1_records}
+use Rattle.domain_checker.specs.{HashedReading.IsHashedChecked, declared.verdict.Verdict.Verdict}
+use Rattle.domain_answer.specs.{Judged.{IsExpansionJudged, IsHashedJudged}, declared.answer.Answer.Answer}
+use Rattle.denial_c.specs.declared.fault.Fault.TheVariants as fault
+use Rattle.denial_c.specs.{Result.{Source, IsSpelled, IsNsecAnswer}, Chains.{EncodeRecords, BeginsNone, IsOfClass, AreSorted, IsChainFault}}
 use Rattle.denial_c.specs.Chains.{IsChainResult, IsFit, IsSortedFault, IsWrittenToBuffer, Making, hashing_fault, nsec3_making, HasFirstPair}
 use Rattle.denial_c.specs.declared.fault.Fault.{Fault, TheVariants.ShortBuffer}
 use Rattle.domain_alike.specs.Alike.{IsFirstPair, Pair}
@@ -197,14 +201,44 @@ hashing_faulty mode class octets sorted a config p by sha1 OutOfMemory h = absur
 
 -- ---- Faults of NSEC3 records.
 
--- what a check tells of a question that was asked; its error is want of memory, or of a name that is refused
-pub hashed_told : {V : Type 0} {source : Source} {apex name : List ℕ} {q : HashedQuestion} (asked : AreAsked source apex name q)
-    (Tells : HashedQuestion → Result V Nsec3HashError → Type 0) (r : Result V Nsec3HashError)
-    → IfErr r (λ e. (e ≡ hash_error.OutOfMemory) ⊎ ((n : ℕ) × (e ≡ hash_error.Hasher n))) → Tells q r
-    → IsHashedResult source apex name Tells (told_or_fault r)
-hashed_told {q = q} asked Tells (Ok told) errors tells = record { q = q; asked = asked; holds = tells }
-hashed_told asked Tells (Err e) (inl full) tells = rw full tt
-hashed_told {q = q} asked Tells (Err e) (inr r) tells = rw r.1 (record { q = q; asked = asked; holds = (r.0, rw r.1 at tells) })
+-- the only errors of a check: out of memory, and that the hasher fails for a name
+abbrev pub IsHashError : Nsec3HashError → Type 0
+IsHashError e = (e ≡ hash_error.OutOfMemory) ⊎ ((n : ℕ) × (e ≡ hash_error.Hasher n))
+
+-- what a check returns for a question that was asked, and the fault of octets that ask none
+module _ {source : Source} {apex name : List ℕ} where
+  both_spelled : {q : HashedQuestion} → AreAsked source apex name q → IsSpelled apex × IsSpelled name
+  both_spelled {q = q} asked = ((q.apex, asked.apex_is), (q.name, asked.name_is))
+
+  pub verdict_returned : {q : HashedQuestion} (asked : AreAsked source apex name q) (t : ℕ) (r : Result Verdict Nsec3HashError)
+      → IfErr r IsHashError → IsHashedChecked (sha1_records q) q.name t r → IsNsec3Result source apex name t (told_or_fault r)
+  verdict_returned {q = q} asked t (Ok told) errors tells = record { q = q; asked = asked; holds = tells }
+  verdict_returned asked t (Err e) (inl full) tells = rw full (both_spelled asked)
+  verdict_returned {q = q} asked t (Err e) (inr r) tells = rw r.1 (record { q = q; asked = asked; holds = (r.0, rw r.1 at tells) })
+
+  pub verdict_refused : (t : ℕ) (e : Fault) → IsNsec3Fault source apex name e → IsNsec3Result source apex name t (Err e)
+  verdict_refused t fault.Hasher why = absurd why
+  verdict_refused t _ why = why
+
+  pub answer_returned : {q : HashedQuestion} (asked : AreAsked source apex name q) (t limit : ℕ) (r : Result Answer Nsec3HashError)
+      → IfErr r IsHashError → IsHashedJudged (sha1_records q) q.name t limit r → IsNsec3Answer source apex name t limit (told_or_fault r)
+  answer_returned {q = q} asked t limit (Ok told) errors tells = record { q = q; asked = asked; holds = tells }
+  answer_returned asked t limit (Err e) (inl full) tells = rw full (both_spelled asked)
+  answer_returned {q = q} asked t limit (Err e) (inr r) tells = rw r.1 (record { q = q; asked = asked; holds = (r.0, rw r.1 at tells) })
+
+  pub answer_refused : (t limit : ℕ) (e : Fault) → IsNsec3Fault source apex name e → IsNsec3Answer source apex name t limit (Err e)
+  answer_refused t limit fault.Hasher why = absurd why
+  answer_refused t limit _ why = why
+
+  pub expansion_returned : {q : HashedQuestion} (asked : AreAsked source apex name q) (n limit : ℕ) (r : Result Answer Nsec3HashError)
+      → IfErr r IsHashError → IsExpansionJudged (sha1_records q) q.name n limit r → IsExpansionAnswer source apex name n limit (told_or_fault r)
+  expansion_returned {q = q} asked n limit (Ok told) errors tells = record { q = q; asked = asked; holds = tells }
+  expansion_returned asked n limit (Err e) (inl full) tells = rw full (both_spelled asked)
+  expansion_returned {q = q} asked n limit (Err e) (inr r) tells = rw r.1 (record { q = q; asked = asked; holds = (r.0, rw r.1 at tells) })
+
+  pub expansion_refused : (n limit : ℕ) (e : Fault) → IsNsec3Fault source apex name e → IsExpansionAnswer source apex name n limit (Err e)
+  expansion_refused n limit fault.Hasher why = absurd why
+  expansion_refused n limit _ why = why
 
 -- what is mapped and passes a test, tested before
 pub map_filter : {X Y : Type 0} (f : X → Y) (q : Y → Bool) (xs : List X) → map f (filter (λ x. q (f x)) xs) ≡ filter q (map f xs)

@@ -240,18 +240,17 @@ source_of telling.ByFirst = alone
 abbrev pub IsSpelledFault : Source → Octets → Fault → Type 0
 IsSpelledFault source apex e = (a : Name) × EncodesName apex a × source.is_fault a e
 
--- the first fault that applies, except that out of memory may come before others; the hasher's
--- fault is that it fails for a name that is looked up
-abbrev pub IsNsec3Fault : Source → Octets → Octets → Type 0 → Fault → Type 0
-IsNsec3Fault source apex name refused fault.Apex = IsSpelled apex → ⊥
-IsNsec3Fault source apex name refused fault.Name = IsSpelled apex × (IsSpelled name → ⊥)
-IsNsec3Fault source apex name refused fault.Records =
+-- the first fault that applies to the octets, except that out of memory may come before those of
+-- the records
+abbrev pub IsNsec3Fault : Source → Octets → Octets → Fault → Type 0
+IsNsec3Fault source apex name fault.Apex = IsSpelled apex → ⊥
+IsNsec3Fault source apex name fault.Name = IsSpelled apex × (IsSpelled name → ⊥)
+IsNsec3Fault source apex name fault.Records =
     IsSpelled name × IsSpelledFault source apex fault.Records
-IsNsec3Fault source apex name refused fault.Param =
+IsNsec3Fault source apex name fault.Param =
     IsSpelled name × IsSpelledFault source apex fault.Param
-IsNsec3Fault source apex name refused fault.Hasher = refused
-IsNsec3Fault source apex name refused fault.OutOfMemory = Unit {0}
-IsNsec3Fault source apex name refused _ = ⊥
+IsNsec3Fault source apex name fault.OutOfMemory = IsSpelled apex × IsSpelled name
+IsNsec3Fault source apex name _ = ⊥
 
 -- the result of a check, with a fault in place of its error
 abbrev pub told_or_fault : {V : Type 0} → Result V Nsec3HashError → Result V Fault
@@ -259,18 +258,15 @@ told_or_fault (Ok told) = Ok told
 told_or_fault (Err hash_error.OutOfMemory) = Err fault.OutOfMemory
 told_or_fault (Err e) = Err fault.Hasher
 
--- what the library returns for a question, which may be the hasher's error, or the reason why it
--- returns nothing
-abbrev pub IsHashedResult : {V : Type 0} → Source → Octets → Octets
-    → (HashedQuestion → Result V Nsec3HashError → Type 0) → Result V Fault → Type 0
-IsHashedResult source apex name Tells (Ok told) = AsksWhere source apex name (λ q. Tells q (Ok told))
-IsHashedResult source apex name Tells (Err e) = IsNsec3Fault source apex name
-    (AsksWhere source apex name (λ q. (n : ℕ) × Tells q (Err (hash_error.Hasher n)))) e
-
--- the verdict on the type t
+-- the verdict on the type t; or that the hasher fails for a name that is looked up; or the fault of
+-- the octets
 abbrev pub IsNsec3Result : Source → Octets → Octets → ℕ → Result Verdict Fault → Type 0
-IsNsec3Result source apex name t =
-    IsHashedResult source apex name (λ q. IsHashedChecked (sha1_records q) q.name t)
+IsNsec3Result source apex name t (Ok verdict) =
+    AsksWhere source apex name (λ q. IsHashedChecked (sha1_records q) q.name t (Ok verdict))
+IsNsec3Result source apex name t (Err fault.Hasher) =
+    AsksWhere source apex name
+    (λ q. (n : ℕ) × IsHashedChecked (sha1_records q) q.name t (Err (hash_error.Hasher n)))
+IsNsec3Result source apex name t (Err e) = IsNsec3Fault source apex name e
 
 -- ---- what C gets
 
@@ -295,20 +291,30 @@ as_question q =
 -- the octets encode, or the exact reason why there is none.
 
 -- the answer for the name and the type t, over the NSEC records of a class; or the first fault that
--- applies, except that out of memory may come before others
+-- applies, except that out of memory may come before that of the records
 abbrev pub IsNsecAnswer : Octets → Octets → ℕ → ℕ → Octets → Result Answer Fault → Type 0
 IsNsecAnswer apex name t class records (Ok answer) =
     AsksNsecs apex name class records (λ links a x. IsJudged links a x t answer)
-IsNsecAnswer apex name t class records (Err fault.OutOfMemory) = Unit {0}
+IsNsecAnswer apex name t class records (Err fault.OutOfMemory) = IsSpelled apex × IsSpelled name
 IsNsecAnswer apex name t class records (Err e) = IsNsecFault apex name class records e
 
--- the answer for the name and the type t over NSEC3 records, with at most `limit` iterations
+-- the answer for the name and the type t over NSEC3 records, with at most `limit` iterations; or
+-- that the hasher fails for a name that is looked up; or the fault of the octets
 abbrev pub IsNsec3Answer : Source → Octets → Octets → ℕ → ℕ → Result Answer Fault → Type 0
-IsNsec3Answer source apex name t limit =
-    IsHashedResult source apex name (λ q. IsHashedJudged (sha1_records q) q.name t limit)
+IsNsec3Answer source apex name t limit (Ok answer) =
+    AsksWhere source apex name (λ q. IsHashedJudged (sha1_records q) q.name t limit (Ok answer))
+IsNsec3Answer source apex name t limit (Err fault.Hasher) =
+    AsksWhere source apex name
+    (λ q. (n : ℕ) × IsHashedJudged (sha1_records q) q.name t limit (Err (hash_error.Hasher n)))
+IsNsec3Answer source apex name t limit (Err e) = IsNsec3Fault source apex name e
 
 -- the answer for a name whose records were expanded from a wildcard, where n is the Labels field of
--- their signatures
+-- their signatures; or that the hasher fails for a name that is looked up; or the fault of the
+-- octets
 abbrev pub IsExpansionAnswer : Source → Octets → Octets → ℕ → ℕ → Result Answer Fault → Type 0
-IsExpansionAnswer source apex name n limit =
-    IsHashedResult source apex name (λ q. IsExpansionJudged (sha1_records q) q.name n limit)
+IsExpansionAnswer source apex name n limit (Ok answer) =
+    AsksWhere source apex name (λ q. IsExpansionJudged (sha1_records q) q.name n limit (Ok answer))
+IsExpansionAnswer source apex name n limit (Err fault.Hasher) =
+    AsksWhere source apex name
+    (λ q. (m : ℕ) × IsExpansionJudged (sha1_records q) q.name n limit (Err (hash_error.Hasher m)))
+IsExpansionAnswer source apex name n limit (Err e) = IsNsec3Fault source apex name e

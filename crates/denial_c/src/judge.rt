@@ -33,7 +33,7 @@ pub(crate) fn nsec_answer(
 
 /// Returns what the NSEC3 records of the class in `records` answer for the name and the type, with
 /// at most `limit` iterations.
-#[tactic(auto, using(std::proofs::lemmas::Grind::common_steps, crate::proofs::AmongLemmas::hashed_told))]
+#[tactic(auto, using(std::proofs::lemmas::Grind::common_steps, crate::proofs::AmongLemmas::answer_returned, crate::proofs::AmongLemmas::answer_refused))]
 pub(crate) fn nsec3_answer(
     alloc: Global,
     telling: Telling,
@@ -56,7 +56,7 @@ pub(crate) fn nsec3_answer(
 /// Returns what the NSEC3 records of the class in `records` answer for a name whose records were
 /// expanded from a wildcard, with at most `limit` iterations. `rrsig_labels` is the Labels field of
 /// their signatures.
-#[tactic(auto, using(std::proofs::lemmas::Grind::common_steps, crate::proofs::AmongLemmas::hashed_told))]
+#[tactic(auto, using(std::proofs::lemmas::Grind::common_steps, crate::proofs::AmongLemmas::expansion_returned, crate::proofs::AmongLemmas::expansion_refused))]
 pub(crate) fn expansion_answer(
     alloc: Global,
     telling: Telling,

@@ -221,7 +221,7 @@ pub(crate) fn chain_told<'a>(
 }
 
 /// Returns what the NSEC3 records of the class in `records` prove about the name and the type.
-#[tactic(auto, using(std::proofs::lemmas::Grind::common_steps, crate::proofs::AmongLemmas::hashed_told))]
+#[tactic(auto, using(std::proofs::lemmas::Grind::common_steps, crate::proofs::AmongLemmas::verdict_returned, crate::proofs::AmongLemmas::verdict_refused))]
 pub(crate) fn nsec3_verdict(
     alloc: Global,
     telling: Telling,

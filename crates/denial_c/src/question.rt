@@ -27,8 +27,8 @@ pub(crate) fn read_question<'a>(
 ) -> Result<Question<'a>, Fault>
     ensures ok { IfOk result (λ question. AreAsked (source_of telling class records.now) apex.now
         name.now (as_question question)) }
-    ensures err { IfErr result (IsNsec3Fault (source_of telling class records.now) apex.now name.now
-        ⊥) }
+    ensures err { IfErr result
+        (IsNsec3Fault (source_of telling class records.now) apex.now name.now) }
 {
     let apex = read_name(apex, Fault::Apex)?;
     let name = read_name(name, Fault::Name)?;
