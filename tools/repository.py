@@ -6,7 +6,7 @@ import re
 
 HERE = pathlib.Path(__file__).resolve().parent.parent
 SHIPPED = HERE / "dist/x86_64-linux"
-PROGRAMS = ["denial", "denial_judge", "denial_lint", "denial_zone"]
+PROGRAMS = ["denial"]
 BUILT = re.compile(r"out|target|\.git|\.dist-.*|__pycache__")
 
 

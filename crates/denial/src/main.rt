@@ -1,39 +1,131 @@
-//! The program `denial`. It reads the records of a zone from standard input, one per line, and
-//! prints the chain that denies what the zone does not hold. Or it reads records of such a chain,
-//! and prints what they prove about a name and a type.
+//! The program `denial`. It makes the chain that denies what a zone does not hold, reports what
+//! records of such a chain prove, and finds mistakes in a zone.
 //!
-//! `run_denial` of `denial_program` does the work. It is generic over its reader, its writer and
-//! its hasher. `main` passes those of the process.
+//! `denial_commands` does the work. It is generic over its reader, its writer and its hasher.
+//! `main` passes those of the process, and opens the file that the arguments name.
 #![tactic(auto)]
 
+mod files;
 mod progress;
 
+use crate::files::{Extra, open_extra, read_all};
 use crate::progress::TellingHasher;
-use denial_program::{BUFFER, DenialFault, run_denial, words_of};
+use denial_commands::{
+    CommandFault, Explanation, FileFault, ZoneRunFault, has_extra_word, run_command, run_over_zone,
+    shown_text, take_zone,
+};
+use denial_program::{BUFFER, DenialFault, ParamFlags, words_of};
 use std::io;
-use std::io::{BufReader, BufWriter};
+use std::io::{BufReader, BufWriter, IsTerminal, Read, Write};
 use std::process::ExitCode;
 
-/// Runs the program with the arguments after its name, and with the process's own input and output.
-fn start(rt: &HostRuntime) -> Result<(), DenialFault> {
+/// Prints a fault of the process, and returns its exit status.
+fn fail(rt: &HostRuntime, fault: DenialFault) -> u8 {
+    let _ = eprintln!(rt; "{fault}");
+    fault.status()
+}
+
+/// Prints that a file can't be read, and returns the exit status.
+fn fail_to_read(rt: &HostRuntime, file: &str) -> u8 {
+    let _ = eprintln!(rt; "denial: cannot read {file}");
+    1
+}
+
+/// Prints at a terminal what is wrong with arguments that are no command.
+fn explain(rt: &HostRuntime, words: &[String], fault: CommandFault) {
+    if fault.status() == 2 && rt.stderr().is_terminal() {
+        if let [.., last] = words
+            && has_extra_word(words)
+        {
+            let _ = eprintln!(rt; "denial: there is no file '{last}'");
+        }
+        let _ = eprint!(rt; "{}", Explanation::new(words));
+    }
+}
+
+/// Prints a text.
+fn print_text(rt: &HostRuntime, text: &str) -> u8 {
+    match io::writer(rt).write_all(text.as_bytes()) {
+        Ok(()) => 0,
+        Err(_) => fail(rt, DenialFault::Write),
+    }
+}
+
+/// Runs a command over what a reader gives, and returns the exit status.
+fn run_reader<R: Read + Drop>(rt: &HostRuntime, words: &[String], reader: R) -> u8 {
     let alloc = rt.alloc();
-    let words = words_of(rt)?;
-    let mut input = BufReader::with_capacity(alloc, BUFFER, rt.reader()).map_err(
-        |_| DenialFault::OutOfMemory,
-    )?;
-    let mut output = BufWriter::with_capacity(alloc, BUFFER, io::writer(rt)).map_err(
-        |_| DenialFault::OutOfMemory,
-    )?;
-    let (words, hasher) = (words.as_slice(), TellingHasher::new(rt));
-    run_denial(alloc, words, &hasher, &mut input, &mut output)
+    let Ok(mut input) = BufReader::with_capacity(alloc, BUFFER, reader) else {
+        return fail(rt, DenialFault::OutOfMemory);
+    };
+    let Ok(mut output) = BufWriter::with_capacity(alloc, BUFFER, io::writer(rt)) else {
+        return fail(rt, DenialFault::OutOfMemory);
+    };
+    let (flags, hasher) = (ParamFlags::OfChain, TellingHasher::new(rt));
+    match run_command(alloc, words, flags, &hasher, &mut input, &mut output) {
+        Ok(outcome) => outcome.status(),
+        Err(fault) => {
+            explain(rt, words, fault);
+            let _ = eprintln!(rt; "{fault}");
+            fault.status()
+        }
+    }
+}
+
+/// Runs a command over the file that follows its arguments, or over standard input.
+fn run_records(rt: &HostRuntime, words: &[String]) -> u8 {
+    let [front @ .., last] = words else {
+        return run_reader(rt, words, rt.reader());
+    };
+    if !has_extra_word(words) {
+        return run_reader(rt, words, rt.reader());
+    }
+    match open_extra(rt, last.as_str()) {
+        Extra::Standard => run_reader(rt, front, rt.reader()),
+        Extra::File(file) => run_reader(rt, front, file),
+        Extra::Missing => run_reader(rt, words, rt.reader()),
+        Extra::Unreadable => fail_to_read(rt, last.as_str()),
+    }
+}
+
+/// Runs a command over a zone file, and returns the exit status.
+fn run_zone_file(rt: &HostRuntime, words: &[String], name: &str) -> u8 {
+    let alloc = rt.alloc();
+    let octets = match read_all(rt, name) {
+        Ok(octets) => octets,
+        Err(DenialFault::Read) => return fail_to_read(rt, name),
+        Err(fault) => return fail(rt, fault),
+    };
+    let Ok(mut output) = BufWriter::with_capacity(alloc, BUFFER, io::writer(rt)) else {
+        return fail(rt, DenialFault::OutOfMemory);
+    };
+    let hasher = TellingHasher::new(rt);
+    match run_over_zone(alloc, words, octets.as_slice(), &hasher, &mut output) {
+        Ok(outcome) => outcome.status(),
+        Err(fault) => {
+            if let ZoneRunFault::Command(fault) = fault {
+                explain(rt, words, fault);
+            }
+            let _ = eprintln!(rt; "{}", FileFault { file: name, fault });
+            fault.status()
+        }
+    }
+}
+
+/// Runs the program with the arguments after its name, and returns its exit status.
+fn run(rt: &HostRuntime) -> u8 {
+    let mut words = match words_of(rt) {
+        Ok(words) => words,
+        Err(fault) => return fail(rt, fault),
+    };
+    if let Some(text) = shown_text(words.as_slice()) {
+        return print_text(rt, text);
+    }
+    match take_zone(&mut words) {
+        Some(name) => run_zone_file(rt, words.as_slice(), name.as_str()),
+        None => run_records(rt, words.as_slice()),
+    }
 }
 
 fn main(rt: HostRuntime) -> ExitCode {
-    match start(&rt) {
-        Ok(()) => ExitCode::SUCCESS,
-        Err(fault) => {
-            let _ = eprintln!(rt; "{fault}");
-            ExitCode::from(fault.status())
-        }
-    }
+    ExitCode::from(run(&rt))
 }

@@ -64,6 +64,16 @@ Asks words (Chain apex (Some p)) = AsksForNsec3 words apex p
 Asks words (CheckNsec q) = AsksToCheck (codes "nsec") words q
 Asks words (CheckNsec3 q) = AsksToCheck (codes "nsec3") words q
 
+-- the apex of a command
+abbrev pub apex_of : Command → Name
+apex_of (Chain apex parameters) = apex
+apex_of (CheckNsec q) = q.apex
+apex_of (CheckNsec3 q) = q.apex
+
+-- the arguments spell a command for the zone at this apex
+abbrev pub AsksAbout : Tokens → Name → Type 0
+AsksAbout words apex = (command : Command) × Asks words command × (apex_of command ≡ apex)
+
 abbrev pub IsCommand : Tokens → Type 0
 IsCommand words = (command : Command) × Asks words command
 

@@ -10,6 +10,7 @@ use Rattle.domain_borrowed.specs.Data.{hash_values, param_values}
 use Rattle.domain_nsec.specs.Chain.{Link}
 use Rattle.domain_nsec3.specs.Chain.{ChainRecords, HashedLink, ParamRecord}
 use Rattle.denial_program.specs.{Check.verdict_text, declared.answer.Reply.{Reply, TheVariants.{Nsecs, Nsec3s, Verdict}}}
+use Rattle.denial_program.specs.declared.answer.ParamFlags.{ParamFlags, TheVariants.{OfChain, Zero}}
 
 -- the owner with its last dot, the TTL, the class, the type and the presentation format of the data
 abbrev pub record_line : {D : Type 0} → ℕ → (D → Octets) → Record Name D → Octets
@@ -39,12 +40,29 @@ nsec3param_line k =
 abbrev pub lines_of : {T : Type 0} → (T → Octets) → List T → Octets
 lines_of text = flat_map (λ item. text item ++ codes "\n")
 
+-- the NSEC3PARAM record that a zone publishes: the same with flags 0 (RFC 5155, section 4.1.2)
+abbrev pub with_zero_flags : ParamRecord → ParamRecord
+with_zero_flags r =
+    record {
+      owner = r.owner;
+      class = r.class;
+      ttl = r.ttl;
+      parameters = r.parameters;
+      flags = 0;
+    }
+
+-- the record with flags as chosen
+abbrev pub param_with : ParamFlags → ParamRecord → ParamRecord
+param_with OfChain r = r
+param_with Zero r = with_zero_flags r
+
 -- a line for each record of an NSEC3 chain, and one for its NSEC3PARAM record
-abbrev pub nsec3s_text : ChainRecords → Octets
-nsec3s_text made = lines_of nsec3_line made.links ++ (nsec3param_line made.param ++ codes "\n")
+abbrev pub nsec3s_text : ParamFlags → ChainRecords → Octets
+nsec3s_text flags made =
+    lines_of nsec3_line made.links ++ (nsec3param_line (param_with flags made.param) ++ codes "\n")
 
 -- a line for each record of a chain, or one line with a verdict
-abbrev pub reply_text : Reply → Octets
-reply_text (Nsecs links) = lines_of nsec_line links
-reply_text (Nsec3s made) = nsec3s_text made
-reply_text (Verdict name verdict) = verdict_text name verdict ++ codes "\n"
+abbrev pub reply_text : ParamFlags → Reply → Octets
+reply_text flags (Nsecs links) = lines_of nsec_line links
+reply_text flags (Nsec3s made) = nsec3s_text flags made
+reply_text flags (Verdict name verdict) = verdict_text name verdict ++ codes "\n"

@@ -1,5 +1,5 @@
 //! The reply of a run, and how it is printed.
-ghost use Rattle.std.specs.Prelude.{◌≡◌, ◌⊎◌, List, IfErr, IfOk, IsErrOf, OnOk};
+ghost use Rattle.std.specs.Prelude.{◌≡◌, ◌⊎◌, ◌++◌, codes, List, IfErr, IfOk, IsErrOf, OnOk};
 ghost use Rattle.std.specs.Io.KnownBytes.{Appends};
 ghost use Rattle.domain_records.specs.Order.{IsInOrder, IsOneClass};
 ghost use Rattle.domain_nsec.specs.Chain.{usual_config, IsFaultless};
@@ -7,7 +7,8 @@ ghost use Rattle.domain_borrowed.specs.Data.{RawRecord, zone_of_raw};
 ghost use Rattle.denial_program.specs.Answer.{HasNoAnswer, HasNoNsecs, IsAnswer, IsNsecs, IsUnmade, SortsRaw};
 ghost use Rattle.denial_program.specs.declared.command.Command.TheVariants.{Chain};
 ghost use Rattle.denial_program.specs.{Fault.IsBeforeOutput, Run.{IsUnwritten, IsWritten}};
-ghost use Rattle.denial_program.specs.Text.{reply_text, lines_of, nsec_line, nsec3_line, nsec3s_text};
+ghost use Rattle.denial_program.specs.Text.{reply_text, lines_of, nsec_line, nsec3_line, nsec3s_text, nsec3param_line, param_with, with_zero_flags};
+ghost use Rattle.domain_nsec3.specs.View.{as_param_record};
 ghost use Rattle.denial_program.specs.declared.fault.DenialFault.TheVariants.{OutOfMemory};
 
 use crate::check::{nsec_reply, nsec3_reply};
@@ -17,16 +18,28 @@ use crate::line::{ZoneName, ZoneOctets};
 use crate::prepare::{compact_zone, sort_zone, store_apex};
 use crate::verdict_text::VerdictText;
 use bumpalo::Bump;
-use domain_base::ParsedName;
+use domain_base::{ParsedName, ToName};
 use domain_borrowed::BorrowedRecord;
 use domain_checker::Verdict;
 use domain_hasher::Nsec3Hasher;
 use domain_nsec::{GenerateNsecConfig, NsecChain};
 use domain_nsec3::{GenerateNsec3Config, Nsec3Chain};
+use domain_rdata::Nsec3param;
+use domain_record::Record;
 use domain_records::{InPlaceSorter, RecordsIter};
 use std::alloc::Global;
 use std::io;
 use std::io::Write;
+
+/// The flags of the NSEC3PARAM record that is written with an NSEC3 chain.
+#[derive(Clone, Copy, Debug, PartialEq, Eq)]
+pub enum ParamFlags {
+    /// Those of the chain: 1 for a chain with opt-out.
+    OfChain,
+    /// 0, as a zone publishes the record. Name servers ignore one with other flags (RFC 5155,
+    /// section 4.1.2).
+    Zero,
+}
 
 /// The reply of a run. An NSEC chain borrows from the records of its zone, an NSEC3 chain from its
 /// apex.
@@ -133,26 +146,58 @@ fn write_chain<W: Write>(chain: &Nsec3Chain<'_, ZoneOctets>, output: &mut W) -> 
     Ok(())
 }
 
+/// Returns the NSEC3PARAM record that a zone publishes: the same with flags 0.
+fn with_zero_flags<'a>(
+    param: &'a Record<ParsedName<'a>, Nsec3param<ZoneOctets>>,
+) -> Record<ParsedName<'a>, Nsec3param<&'a [u8]>>
+    ensures { as_param_record (λ n. n) result
+        ≡ with_zero_flags (as_param_record (λ n. n) param.now) }
+{
+    let data = param.data();
+    let salt = data.salt().with_octets(data.salt().as_slice());
+    let data = Nsec3param::new(data.hash_algorithm(), 0, data.iterations(), salt);
+    Record::new(param.owner().as_parsed(), param.class(), param.ttl(), data)
+}
+
+/// Writes an NSEC3PARAM record, with flags as chosen.
+fn write_param<W: Write>(
+    param: &Record<ParsedName<'_>, Nsec3param<ZoneOctets>>,
+    flags: ParamFlags,
+    output: &mut W,
+) -> io::Result<()>
+    ensures { OnOk result (Appends (W.contents output.old) (W.contents output.new)
+        (nsec3param_line (param_with flags (as_param_record (λ n. n) param.now))
+        ++ codes "\n")) }
+{
+    match flags {
+        ParamFlags::OfChain => writeln!(output, "{param}"),
+        ParamFlags::Zero => writeln!(output, "{}", with_zero_flags(param)),
+    }
+}
+
 /// Writes the records of an NSEC3 chain, and its NSEC3PARAM record.
 #[tactic(auto, using(crate::proofs::RunLemmas::appends_more))]
-fn write_nsec3s<W: Write>(chain: &Nsec3Chain<'_, ZoneOctets>, output: &mut W) -> io::Result<()>
+fn write_nsec3s<W: Write>(
+    chain: &Nsec3Chain<'_, ZoneOctets>,
+    flags: ParamFlags,
+    output: &mut W,
+) -> io::Result<()>
     ensures { OnOk result (Appends (W.contents output.old) (W.contents output.new)
-        (nsec3s_text chain.now)) }
+        (nsec3s_text flags chain.now)) }
 {
     write_chain(chain, output)?;
-    writeln!(output, "{}", chain.nsec3param())?;
-    Ok(())
+    write_param(chain.nsec3param(), flags, output)
 }
 
 impl<'s, 'a> Reply<'s, 'a> {
     /// Writes the reply, and flushes the output.
-    fn write<W: Write>(&self, output: &mut W) -> io::Result<()>
-        ensures { OnOk result
-            (Appends (W.contents output.old) (W.contents output.new) (reply_text self.now)) }
+    fn write<W: Write>(&self, flags: ParamFlags, output: &mut W) -> io::Result<()>
+        ensures { OnOk result (Appends (W.contents output.old) (W.contents output.new)
+            (reply_text flags self.now)) }
     {
         match self {
             Reply::Nsecs(chain) => write_nsecs(chain, output)?,
-            Reply::Nsec3s(chain) => write_nsec3s(chain, output)?,
+            Reply::Nsec3s(chain) => write_nsec3s(chain, flags, output)?,
             Reply::Verdict(name, verdict) => {
                 let verdict = *verdict;
                 writeln!(output, "{}", VerdictText { name, verdict })?;
@@ -163,12 +208,12 @@ impl<'s, 'a> Reply<'s, 'a> {
 
     /// Writes the reply. An error of the device is `Write`, or `OutOfMemory` if it is out of
     /// memory.
-    fn send<W: Write>(self, output: &mut W) -> Result<(), DenialFault>
-        ensures ok { OnOk result
-            (Appends (W.contents output.old) (W.contents output.new) (reply_text self.entry)) }
+    fn send<W: Write>(self, flags: ParamFlags, output: &mut W) -> Result<(), DenialFault>
+        ensures ok { OnOk result (Appends (W.contents output.old) (W.contents output.new)
+            (reply_text flags self.entry)) }
         ensures err { IfErr result (λ e. (e ≡ DenialFault.Write) ⊎ (e ≡ OutOfMemory)) }
     {
-        match self.write(output) {
+        match self.write(flags, output) {
             Ok(()) => Ok(()),
             Err(e) => Err(fault_of(&e, DenialFault::Write)),
         }
@@ -183,10 +228,11 @@ fn write_chain_of<'a, W: Write, H: Nsec3Hasher>(
     apex: &ZoneName,
     parameters: Option<Nsec3Params>,
     records: Vec<BorrowedRecord<'a>>,
+    flags: ParamFlags,
     hasher: &H,
     output: &mut W,
 ) -> Result<(), DenialFault>
-    ensures ok { OnOk result (IsWritten reply_text
+    ensures ok { OnOk result (IsWritten (reply_text flags)
         (IsAnswer (H.answer hasher.now) (Chain apex.now parameters) records.entry.items)
         (W.contents output.old) (W.contents output.new)) }
     ensures err { IfErr result (IsUnwritten
@@ -198,10 +244,10 @@ fn write_chain_of<'a, W: Write, H: Nsec3Hasher>(
     let apex = store_apex(arena, apex)?;
     let compacted = compact_zone(arena, sorted, parameters.is_none())?;
     let answer = chain_reply(alloc, &apex, parameters, &compacted, hasher)?;
-    answer.send(output)
+    answer.send(flags, output)
 }
 
-/// Writes what a command asks of the records.
+/// Writes what a command asks of the records. The NSEC3PARAM record has flags as chosen.
 ///
 /// # Errors
 ///
@@ -221,10 +267,11 @@ pub fn write_answer<'a, W: Write, H: Nsec3Hasher>(
     arena: &'a Bump,
     command: Command,
     records: Vec<BorrowedRecord<'a>>,
+    flags: ParamFlags,
     hasher: &H,
     output: &mut W,
 ) -> Result<(), DenialFault>
-    ensures ok { OnOk result (IsWritten reply_text
+    ensures ok { OnOk result (IsWritten (reply_text flags)
         (IsAnswer (H.answer hasher.now) command records.entry.items)
         (W.contents output.old) (W.contents output.new)) }
     ensures err { IfErr result
@@ -234,15 +281,17 @@ pub fn write_answer<'a, W: Write, H: Nsec3Hasher>(
 {
     match command {
         Command::Chain(apex, parameters) => {
-            write_chain_of(alloc, arena, &apex, parameters, records, hasher, output)
+            write_chain_of(
+                alloc, arena, &apex, parameters, records, flags, hasher, output,
+            )
         }
         Command::CheckNsec(question) => {
             let answer = nsec_reply(alloc, question, records)?;
-            answer.send(output)
+            answer.send(flags, output)
         }
         Command::CheckNsec3(question) => {
             let answer = nsec3_reply(alloc, question, records, hasher)?;
-            answer.send(output)
+            answer.send(flags, output)
         }
     }
 }

@@ -3,7 +3,7 @@ ghost use Rattle.std.specs.Prelude.{◌≡◌, ◌⊎◌, ℕ, ◌∷◌, codes,
 ghost use Rattle.domain_names.specs.Text.{NameText, IsNoName, ScanFault};
 ghost use Rattle.domain_bitmap.specs.Text.{SaltText};
 ghost use Rattle.domain_octets.specs.Octets.{Octets};
-ghost use Rattle.denial_program.specs.Command.{Asks, FlagsText, IsNoCommand, IsUsage, Params, Spell, SpellQuestion};
+ghost use Rattle.denial_program.specs.Command.{Asks, AsksAbout, FlagsText, IsNoCommand, IsUsage, Params, Spell, SpellQuestion};
 ghost use Rattle.denial_program.specs.declared.command.Question.{Question};
 ghost use Rattle.denial_program.specs.declared.fault.DenialFault.TheVariants.{OutOfMemory};
 
@@ -202,5 +202,21 @@ pub fn command_of(alloc: Global, words: &[String]) -> Result<Command, DenialFaul
         "nsec3" => nsec3_command(alloc, rest),
         "check" => check_command(alloc, rest),
         _ => Err(DenialFault::Usage),
+    }
+}
+
+/// Returns the apex that the arguments of the program name.
+///
+/// # Errors
+///
+/// `Usage` if and only if they are no command, and `OutOfMemory` if there is no memory.
+pub fn apex_of(alloc: Global, words: &[String]) -> Result<ZoneName, DenialFault>
+    ensures ok { IfOk result (AsksAbout (map string_bytes words.now)) }
+    ensures err { IfErr result (IsUsage (IsNoCommand (map string_bytes words.now))) }
+{
+    match command_of(alloc, words)? {
+        Command::Chain(apex, _) => Ok(apex),
+        Command::CheckNsec(question) => Ok(question.apex),
+        Command::CheckNsec3(question) => Ok(question.apex),
     }
 }

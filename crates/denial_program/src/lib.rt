@@ -22,13 +22,13 @@ mod store;
 mod verdict_text;
 
 pub use among::records_among;
-pub use answer::{Reply, nsecs_of};
+pub use answer::{ParamFlags, Reply, nsecs_of};
 pub use check::chain_of;
-pub use command::{Nsec3Params, Question, name_of, parameters_of, question_of};
+pub use command::{Nsec3Params, Question, apex_of, name_of, parameters_of, question_of};
 pub use fault::{DenialFault, fault_of};
 pub use line::{Line, ZoneName, ZoneOctets};
 pub use prepare::{PrepareError, read_records, sort_zone};
 pub use process::{BUFFER, words_of};
-pub use program::run_denial;
+pub use program::{run_denial, run_with};
 pub use reading::{next_line, without_end};
 pub use store::Store;

@@ -4,9 +4,10 @@ ghost use Rattle.std.specs.Str.Lines.{lines};
 ghost use Rattle.denial_program.specs.{Answer.{Answers, GivesNoAnswer}, Command.IsCommand};
 ghost use Rattle.denial_program.specs.{Fault.{IsBeforeOutput, IsReadToEnd, TellsUsage}, Run.IsProgramRun};
 ghost use Rattle.denial_program.specs.Text.{reply_text};
+ghost use Rattle.denial_program.specs.declared.answer.ParamFlags.TheVariants.{OfChain};
 ghost use Rattle.denial_program.specs.declared.fault.DenialFault.TheVariants.{OutOfMemory};
 
-use crate::answer::write_answer;
+use crate::answer::{ParamFlags, write_answer};
 use crate::fault::DenialFault;
 use crate::prepare::{read_command, read_records};
 use bumpalo::Bump;
@@ -43,7 +44,39 @@ pub fn run_denial<R: BufRead, W: Write, H: Nsec3Hasher>(
     output: &mut W,
 ) -> Result<(), DenialFault>
     // The reply to the command, over the records that the lines give.
-    ensures run { IsProgramRun reply_text (Answers (H.answer hasher.now)
+    ensures run { IsProgramRun (reply_text OfChain) (Answers (H.answer hasher.now)
+        (map string_bytes words.now))
+        (GivesNoAnswer (H.answer hasher.now) (map string_bytes words.now))
+        (R.remaining input.old) (R.remaining input.new) (W.contents output.old)
+        (W.contents output.new) result }
+
+    // `Usage` if and only if the arguments are no command, unless memory runs out.
+    ensures usage { MatchResult result (λ _. IsCommand (map string_bytes words.now))
+        (TellsUsage (map string_bytes words.now)) }
+
+    // `OutOfMemory`, after the records are read, hides no fault of theirs: it has a reason too.
+    ensures memory { IsErrOf result OutOfMemory → IfSome (R.remaining input.old)
+        (λ bytes. GivesNoAnswer (H.answer hasher.now) (map string_bytes words.now)
+        (lines bytes) OutOfMemory) }
+    ensures memory_end { IsErrOf result OutOfMemory
+        → IsReadToEnd (R.remaining input.old) (R.remaining input.new) }
+    ensures untouched { IfErr result (λ e. IsBeforeOutput e → output.new ≡ output.old) }
+{
+    run_with(alloc, words, ParamFlags::OfChain, hasher, input, output)
+}
+
+/// Runs the command as `run_denial` does, and with the same errors. The NSEC3PARAM record that is
+/// written with an NSEC3 chain has flags as chosen.
+pub fn run_with<R: BufRead, W: Write, H: Nsec3Hasher>(
+    alloc: Global,
+    words: &[String],
+    flags: ParamFlags,
+    hasher: &H,
+    input: &mut R,
+    output: &mut W,
+) -> Result<(), DenialFault>
+    // The reply to the command, over the records that the lines give.
+    ensures run { IsProgramRun (reply_text flags) (Answers (H.answer hasher.now)
         (map string_bytes words.now))
         (GivesNoAnswer (H.answer hasher.now) (map string_bytes words.now))
         (R.remaining input.old) (R.remaining input.new) (W.contents output.old)
@@ -64,5 +97,5 @@ pub fn run_denial<R: BufRead, W: Write, H: Nsec3Hasher>(
     let command = read_command(alloc, words)?;
     let arena = Bump::new(alloc);
     let records = read_records(alloc, &arena, input)?;
-    write_answer(alloc, &arena, command, records, hasher, output)
+    write_answer(alloc, &arena, command, records, flags, hasher, output)
 }

@@ -1,7 +1,7 @@
 -- The command that the arguments of the program spell.
 use Rattle.std.specs.Prelude.{◌≡◌, ◌⊎◌, ℕ, [], ◌∷◌, codes, Option, Some, None}
 use Rattle.domain_base.specs.Scan.{IsNumber}
-use Rattle.domain_names.specs.Name.{Token, Tokens}
+use Rattle.domain_names.specs.Name.{Name, Token, Tokens}
 use Rattle.denial_program.specs.Command.{SpellQuestion}
 use Rattle.judge_program.specs.declared.{command.{ChainKind.{ChainKind, TheVariants.{Nsec, Nsec3}}, Command.Command}, shown.Shown.Shown}
 use Rattle.judge_program.specs.declared.shown.Shown.TheVariants.{Answer, Why, Records}
@@ -49,6 +49,11 @@ pub record AsksToJudge (words : Tokens) (command : Command) : Type 0 where
   pub are : words ≡ kind_word ∷ apex_word ∷ name_word ∷ type_word ∷ options
   pub kind : KindText kind_word options command.kind command.shown
   pub question : SpellQuestion apex_word name_word type_word command.question
+
+-- the arguments spell a command for the zone at this apex
+abbrev pub AsksToJudgeAbout : Tokens → Name → Type 0
+AsksToJudgeAbout words apex =
+    (command : Command) × AsksToJudge words command × (command.question.apex ≡ apex)
 
 abbrev pub IsJudgeCommand : Tokens → Type 0
 IsJudgeCommand words = (command : Command) × AsksToJudge words command

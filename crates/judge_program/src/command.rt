@@ -1,13 +1,13 @@
 //! The command that the arguments of the program spell.
 ghost use Rattle.std.specs.Prelude.{◌≡◌, ◌⊎◌, ◌∷◌, [], ℕ, None, IfErr, IfNone, IfOk, IfSome, map, string_bytes};
 ghost use Rattle.denial_program.specs.declared.fault.DenialFault.TheVariants.{OutOfMemory};
-ghost use Rattle.judge_program.specs.Command.{AsksToJudge, IsNoJudgeCommand, KindText, LabelsText, LimitText, ShownText};
+ghost use Rattle.judge_program.specs.Command.{AsksToJudge, AsksToJudgeAbout, IsNoJudgeCommand, KindText, LabelsText, LimitText, ShownText};
 ghost use Rattle.judge_program.specs.declared.command.ChainKind.{ChainKind};
 ghost use Rattle.judge_program.specs.declared.command.Nsec3Options.{Nsec3Options};
 ghost use Rattle.judge_program.specs.declared.shown.Shown.{Shown};
 
 use crate::shown::Shown;
-use denial_program::{DenialFault, Question, question_of};
+use denial_program::{DenialFault, Question, ZoneName, question_of};
 use domain_base::FromToken;
 use std::alloc::Global;
 
@@ -139,4 +139,19 @@ pub fn command_of(alloc: Global, words: &[String]) -> Result<Command, DenialFaul
         question,
         shown,
     })
+}
+
+/// Returns the apex that the arguments of the program name.
+///
+/// # Errors
+///
+/// `Usage` if and only if they are no command, and `OutOfMemory` if there is no memory.
+pub fn judged_apex(alloc: Global, words: &[String]) -> Result<ZoneName, DenialFault>
+    ensures ok { IfOk result (AsksToJudgeAbout (map string_bytes words.now)) }
+    ensures err { IfErr result (λ e.
+        ((e ≡ DenialFault.Usage) × IsNoJudgeCommand (map string_bytes words.now))
+        ⊎ (e ≡ OutOfMemory)) }
+{
+    let command = command_of(alloc, words)?;
+    Ok(command.question.apex)
 }

@@ -1,11 +1,10 @@
 //! The command that the arguments of the program spell.
 ghost use Rattle.std.specs.Prelude.{◌≡◌, ◌⊎◌, IfErr, IfOk, map, string_bytes};
-ghost use Rattle.domain_names.specs.Text.{IsNoName, NameText};
 ghost use Rattle.denial_program.specs.declared.fault.DenialFault.TheVariants.{OutOfMemory};
 ghost use Rattle.lint_program.specs.Command.{AsksToLint, IsNoLintCommand};
 
 use bumpalo::Bump;
-use denial_program::{DenialFault, Nsec3Params, name_of, parameters_of};
+use denial_program::{DenialFault, Nsec3Params, ZoneName, name_of, parameters_of};
 use domain_base::{ParsedName, ToName};
 use std::alloc::Global;
 
@@ -18,19 +17,32 @@ pub struct Asked<'a> {
     pub parameters: Option<Nsec3Params>,
 }
 
-/// Returns the name that an argument spells, stored in the arena.
-fn stored_name<'a>(
+/// Returns the apex that the arguments spell, and the parameters of an NSEC3 chain if its
+/// iterations and salt follow it.
+///
+/// # Errors
+///
+/// `Usage` if and only if they spell none, and `OutOfMemory` if there is no memory.
+pub fn linted_zone(
     alloc: Global,
-    arena: &'a Bump,
-    word: &str,
-) -> Result<ParsedName<'a>, DenialFault>
-    ensures ok { IfOk result (NameText word.now) }
+    words: &[String],
+) -> Result<(ZoneName, Option<Nsec3Params>), DenialFault>
+    ensures ok { IfOk result (λ asked.
+        AsksToLint (map string_bytes words.now) asked.0 asked.1) }
     ensures err { IfErr result (λ e.
-        ((e ≡ DenialFault.Usage) × IsNoName word.now) ⊎ (e ≡ OutOfMemory)) }
+        ((e ≡ DenialFault.Usage) × IsNoLintCommand (map string_bytes words.now))
+        ⊎ (e ≡ OutOfMemory)) }
 {
-    let name = name_of(alloc, word)?;
-    let wire = arena.try_alloc_slice_copy(name.as_wire())?;
-    Ok(ParsedName::over(wire))
+    match words {
+        [apex] => Ok((name_of(alloc, apex.as_str())?, None)),
+        [apex, iterations, salt] => {
+            let apex = name_of(alloc, apex.as_str())?;
+            let (iterations, salt) = (iterations.as_str(), salt.as_str());
+            let parameters = parameters_of(alloc, iterations, salt, &[])?;
+            Ok((apex, Some(parameters)))
+        }
+        _ => Err(DenialFault::Usage),
+    }
 }
 
 /// Returns the command that the arguments spell: an apex, and after it either the iterations and
@@ -50,23 +62,10 @@ pub fn asked_of<'a>(
         ((e ≡ DenialFault.Usage) × IsNoLintCommand (map string_bytes words.now))
         ⊎ (e ≡ OutOfMemory)) }
 {
-    match words {
-        [apex] => {
-            let apex = stored_name(alloc, arena, apex.as_str())?;
-            Ok(Asked {
-                apex,
-                parameters: None,
-            })
-        }
-        [apex, iterations, salt] => {
-            let apex = stored_name(alloc, arena, apex.as_str())?;
-            let (iterations, salt) = (iterations.as_str(), salt.as_str());
-            let parameters = parameters_of(alloc, iterations, salt, &[])?;
-            Ok(Asked {
-                apex,
-                parameters: Some(parameters),
-            })
-        }
-        _ => Err(DenialFault::Usage),
-    }
+    let (apex, parameters) = linted_zone(alloc, words)?;
+    let wire = arena.try_alloc_slice_copy(apex.as_wire())?;
+    Ok(Asked {
+        apex: ParsedName::over(wire),
+        parameters,
+    })
 }

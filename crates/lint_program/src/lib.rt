@@ -1,6 +1,6 @@
-//! The whole program `denial_lint`. It reads the records of a zone, one a line, as `denial` does.
-//! It reports every line that is not a record, with what is wrong in it. Then it reports what is
-//! wrong with the records as a zone, and what is no fault but is seldom intended.
+//! The command `lint` of the program `denial`. It reads the records of a zone, one a line, as the
+//! others do. It reports every line that is not a record, with what is wrong in it. Then it reports
+//! what is wrong with the records as a zone, and what is no fault but is seldom intended.
 //!
 //! `run_lint` is generic over its reader, its writer and its hasher. Its contract covers four
 //! decisions:
@@ -32,6 +32,7 @@ mod reading;
 mod refusal;
 mod report;
 
+pub use command::linted_zone;
 pub use fault::LintFault;
 pub use outcome::Outcome;
 pub use program::run_lint;

@@ -1,1 +1,2 @@
 pub mod LineLemmas
+pub mod NumberedLemmas

@@ -1,2 +1,4 @@
 pub mod Lines
+pub mod Numbered
 pub mod Run
+pub mod Status

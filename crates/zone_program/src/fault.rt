@@ -1,4 +1,7 @@
 //! The reasons why a run stops.
+ghost use Rattle.std.specs.Prelude.{◌≡◌};
+ghost use Rattle.zone_program.specs.Status.{zone_status};
+
 use domain_zonefile::{EntryFaultKind, Place, SyntaxError};
 use std::fmt;
 
@@ -32,7 +35,9 @@ pub enum FileFaultKind {
 
 impl ZoneFault {
     /// Returns the exit status of the program: 2 for `Usage`, else 1.
-    pub fn status(&self) -> u8 {
+    pub fn status(&self) -> u8
+        ensures { result ≡ zone_status self.now }
+    {
         match self {
             ZoneFault::Usage => 2,
             _ => 1,

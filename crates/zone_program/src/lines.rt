@@ -24,14 +24,14 @@ fn is_of_signer(rtype: Rtype) -> bool
 }
 
 /// Returns whether a record is left out.
-fn is_left_out(is_unsigned: bool, fields: &RecordFields) -> bool
+pub fn is_left_out(is_unsigned: bool, fields: &RecordFields) -> bool
     ensures { result ≡ (is_unsigned && is_of_signer fields.now.rtype) }
 {
     is_unsigned && is_of_signer(fields.rtype)
 }
 
 /// Appends the line of a record.
-fn put_line(
+pub fn put_line(
     text: &mut String,
     owner: &ParsedName<'_>,
     fields: RecordFields,
@@ -49,7 +49,7 @@ fn put_line(
 }
 
 /// Returns the fault of an entry.
-fn fault_of_entry(reader: &mut ZoneReader<'_>, fault: EntryFault) -> ZoneFault
+pub fn fault_of_entry(reader: &mut ZoneReader<'_>, fault: EntryFault) -> ZoneFault
     ensures fault { ItemTold reader.old.file (ZoneItem.Refused fault) reader.old.tokens result }
     ensures file { reader.new.file ≡ reader.old.file }
 {

@@ -1,0 +1,20 @@
+-- The words of a command.
+use Rattle.std.proofs.Common.{◌≡◌, ℕ, ◌+◌, ◌-◌, ◌<◌, ◌≤◌, Bool, true, false, List, [], ◌∷◌, ◌++◌, length, map, Some}
+use Rattle.std.proofs.Common.{String, Global, arith, ap, refl, subst, string_bytes, codes, sym, ◌∙◌, append_assoc}
+use Rattle.std.proofs.lemmas.{List.length-map, Slice.Eq.bytes_eq-Decides}
+use Rattle.domain_names.specs.Name.{Tokens}
+use Rattle.denial_commands.specs.Command.{answer_options}
+use Rattle.denial_commands.specs.Source.{least_before, word_is, IsZoneAt, IsZoneFrom}
+
+pub zone_at : (words : List (String Global)) (least at : ℕ) → Some least ≡ least_before (map string_bytes words) → least ≤ at → at < length words - 1
+    → word_is (map string_bytes words) at (codes "--zone") ≡ true → IsZoneAt (map string_bytes words) at
+zone_at words least at known after within is =
+    subst (λ found. IsZoneFrom (map string_bytes words) found at) known
+    (after, rw (length-map words string_bytes) (omega (arith, within)), (bytes_eq-Decides _ _).0 is)
+
+-- the options of `answer` for NSEC3, one after another
+pub three_more : (is_nsec3 : Bool) (old first second all : Tokens) → is_nsec3 ≡ true → first ≡ old ++ codes "--limit" ∷ []
+    → second ≡ first ++ codes "65535" ∷ [] → all ≡ second ++ codes "--records" ∷ [] → all ≡ old ++ answer_options is_nsec3
+three_more false old first second all is p q r = absurd (cc)
+three_more true old first second all is p q r =
+    r ∙ ap (λ t. t ++ codes "--records" ∷ []) (q ∙ ap (λ t. t ++ codes "65535" ∷ []) p) ∙ simp append_assoc refl

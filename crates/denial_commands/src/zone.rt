@@ -1,0 +1,136 @@
+//! Runs a command over the records of a zone file.
+ghost use Rattle.std.specs.Prelude.{◌≡◌, map, string_bytes, IfOk, IfErr};
+ghost use Rattle.denial_program.specs.Command.{AsksAbout};
+ghost use Rattle.judge_program.specs.Command.{AsksToJudgeAbout};
+ghost use Rattle.denial_commands.specs.{Command.answer_words, Zone.{leaves_out, AsksToLintAbout, HasNoApex, HasNoDeniedApex, HasNoJudgedApex}};
+ghost use Rattle.denial_commands.specs.Zone.{HasNoLintedApex, IsAbout, RunsOverZone};
+
+use crate::answer::answer_words;
+use crate::command::{Subcommand, subcommand_of};
+use crate::fault::{CommandFault, ZoneRunFault};
+use crate::run::run_command;
+use denial_program::{DenialFault, ParamFlags, ZoneName, apex_of};
+use domain_base::ToName;
+use domain_hasher::Nsec3Hasher;
+use domain_octets::OutOfMemory;
+use judge_program::judged_apex;
+use lint_program::{Outcome, linted_zone};
+use std::alloc::Global;
+use std::io::Write;
+use zone_program::{ZoneFault, numbered_lines};
+
+/// Returns the apex that the arguments of one of the specification's commands name.
+fn denied_apex(alloc: Global, words: &[String]) -> Result<ZoneName, CommandFault>
+    ensures ok { IfOk result (λ apex. AsksAbout (map string_bytes words.now) apex) }
+    ensures err { IfErr result (HasNoDeniedApex (map string_bytes words.now)) }
+{
+    match apex_of(alloc, words) {
+        Ok(apex) => Ok(apex),
+        Err(fault) => Err(CommandFault::Denial(fault)),
+    }
+}
+
+/// Returns the apex that the arguments of `judge` name.
+fn apex_to_judge(alloc: Global, words: &[String]) -> Result<ZoneName, CommandFault>
+    ensures ok { IfOk result (λ apex. AsksToJudgeAbout (map string_bytes words.now) apex) }
+    ensures err { IfErr result (HasNoJudgedApex (map string_bytes words.now)) }
+{
+    match judged_apex(alloc, words) {
+        Ok(apex) => Ok(apex),
+        Err(fault) => Err(CommandFault::Judge(fault)),
+    }
+}
+
+/// Returns the apex that the arguments of `answer` name.
+fn apex_to_answer(alloc: Global, words: &[String]) -> Result<ZoneName, CommandFault>
+    ensures ok { IfOk result (λ apex.
+        AsksToJudgeAbout (answer_words (map string_bytes words.now)) apex) }
+    ensures err { IfErr result (HasNoJudgedApex (answer_words (map string_bytes words.now))) }
+{
+    match answer_words(alloc, words) {
+        Ok(asked) => apex_to_judge(alloc, asked.as_slice()),
+        Err(OutOfMemory) => Err(CommandFault::Judge(DenialFault::OutOfMemory)),
+    }
+}
+
+/// Returns the apex that the arguments of `lint` name.
+fn apex_to_lint(alloc: Global, words: &[String]) -> Result<ZoneName, CommandFault>
+    ensures ok { IfOk result (λ apex. AsksToLintAbout (map string_bytes words.now) apex) }
+    ensures err { IfErr result (HasNoLintedApex (map string_bytes words.now)) }
+{
+    match linted_zone(alloc, words) {
+        Ok((apex, _)) => Ok(apex),
+        Err(fault) => Err(CommandFault::Lint(fault)),
+    }
+}
+
+/// Returns the apex that the arguments name. `zone` has no option `--zone`.
+fn apex_of_command(alloc: Global, words: &[String]) -> Result<ZoneName, CommandFault>
+    ensures ok { IfOk result (IsAbout (map string_bytes words.now)) }
+    ensures err { IfErr result (HasNoApex (map string_bytes words.now)) }
+{
+    let [word, rest @ ..] = words else {
+        return denied_apex(alloc, words);
+    };
+    match subcommand_of(word.as_str()) {
+        Subcommand::Denial => denied_apex(alloc, words),
+        Subcommand::Judge => apex_to_judge(alloc, rest),
+        Subcommand::Answer => apex_to_answer(alloc, rest),
+        Subcommand::Lint => apex_to_lint(alloc, rest),
+        Subcommand::Zone => Err(CommandFault::Zone(ZoneFault::Usage)),
+    }
+}
+
+/// Returns whether the command reads a zone without the records that a signer adds: `nsec`,
+/// `nsec3` and `lint` do. `check`, `judge` and `answer` read those.
+fn leaves_out(words: &[String]) -> bool
+    ensures { result ≡ leaves_out (map string_bytes words.now) }
+{
+    let [word, ..] = words else {
+        return false;
+    };
+    match word.as_str() {
+        "nsec" | "nsec3" | "lint" => true,
+        _ => false,
+    }
+}
+
+/// Runs a command over the records of a zone file, whose names are relative to the apex that the
+/// arguments name. The words are those without `--zone FILE`. It is `run_command` over the lines of
+/// `numbered_lines`, so the number of a line is that of the file. For `nsec`, `nsec3` and `lint`
+/// the records that a signer adds are left out. The NSEC3PARAM record that `nsec3` writes has flags
+/// 0.
+///
+/// # Errors
+///
+/// The first of these that applies:
+///
+/// - `Command` with `Usage` if the arguments are no command that reads records;
+/// - `File` with the first fault of the file;
+/// - `Command` with the faults of `run_command` over the lines.
+///
+/// `OutOfMemory` may come at any time, as a fault of either.
+pub fn run_over_zone<W: Write, H: Nsec3Hasher>(
+    alloc: Global,
+    words: &[String],
+    file: &[u8],
+    hasher: &H,
+    output: &mut W,
+) -> Result<Outcome, ZoneRunFault>
+    ensures { RunsOverZone (map string_bytes words.now) file.now (H.answer hasher.now)
+        (W.contents output.old) (W.contents output.new) output.old output.new result }
+{
+    let apex = match apex_of_command(alloc, words) {
+        Ok(apex) => apex,
+        Err(fault) => return Err(ZoneRunFault::Command(fault)),
+    };
+    let lines = match numbered_lines(alloc, &apex.as_parsed(), file, leaves_out(words)) {
+        Ok(lines) => lines,
+        Err(fault) => return Err(ZoneRunFault::File(fault)),
+    };
+    let mut input = lines.as_bytes();
+    match run_command(alloc, words, ParamFlags::Zero, hasher, &mut input, output) {
+        Ok(outcome) => Ok(outcome),
+        Err(fault) => Err(ZoneRunFault::Command(fault)),
+    }
+}
