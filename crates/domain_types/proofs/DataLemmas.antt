@@ -14,7 +14,7 @@ use Rattle.domain_types.specs.Table.{fields_of, tail_of}
 use Rattle.domain_types.specs.declared.field.Field.{Field}
 use Rattle.domain_types.specs.declared.field.Tail.{Tail}
 use Rattle.domain_types.specs.declared.field.Shape.{Shape}
-use Rattle.domain_types.specs.declared.field.Shape.TheVariants.{Exactly, Domain, Counted, Word, AfterTwo, AfterOne, TwoCounted, CountedInBits, CountedLong}
+use Rattle.domain_types.specs.declared.field.Shape.TheVariants.{Exactly, Domain, Counted, Word, AfterTwo, AfterOne, TwoCounted, CountedInBits}
 use Rattle.domain_types.specs.declared.field.Field.TheVariants as fields
 use Rattle.domain_types.proofs.FieldLemmas.{front_at}
 
@@ -68,7 +68,6 @@ shape_front TwoCounted part after is = rw (
       (omega (arith, is)),
 ) (sym is)
 shape_front CountedInBits part after is = rw (front_at part after 3 (omega (arith, is))) (sym is)
-shape_front CountedLong part after is = rw (front_at part after 2 (omega (arith, is)), front_at part after 3 (omega (arith, is))) (sym is)
 
 pub field_front : (field : Field) (part after : List ℕ) → IsField field part → field_size field (part ++ after) ≡ length part
 unfolding field_size

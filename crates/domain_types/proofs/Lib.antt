@@ -10,3 +10,5 @@ pub mod TtlLemmas
 pub mod HashLemmas
 pub mod TimeLemmas
 pub mod AddressLemmas
+pub mod ParametersLemmas
+pub mod QuoteLemmas

@@ -1,5 +1,6 @@
 -- What tokens spell is data of the type, and tokens with a fault spell none.
-use Rattle.std.proofs.Common.{◌≡◌, ℕ, suc, ◌+◌, ◌-◌, ◌*◌, ◌<◌, ◌≤◌, List, [], ◌∷◌, ◌++◌, length, drop, refl, sym, ap, ◌∙◌, subst, arith, length-append, inl}
+use Rattle.std.proofs.Common.{◌≡◌, ℕ, suc, ◌+◌, ◌-◌, ◌*◌, ◌<◌, ◌≤◌, List, [], ◌∷◌, ◌++◌, length, drop, refl, sym, ap, ◌∙◌, subst, arith}
+use Rattle.std.proofs.Common.{length-append, inl}
 use Rattle.std.proofs.Common.{inr, true, false, ◌⊎◌}
 use Rattle.std.proofs.lemmas.{Grind.common_steps, List.{append-nil, length-replicate}}
 use Rattle.std.specs.{Prelude.slice_index, Net.{Grammar.{IsColonHex}, Addr.octets_of}}
@@ -21,7 +22,11 @@ use Rattle.domain_types.specs.declared.token.DataFaultKind.TheVariants as kinds
 use Rattle.domain_codecs.specs.declared.codec.Codec.{Codec}
 use Rattle.hex.specs.{Hex.decode_of, declared.error.FromHexError.FromHexError}
 use Rattle.std.specs.{List.concat, Prelude.{Result, Ok}}
-use Rattle.domain_types.specs.Reading.{token_texts}
+use Rattle.domain_types.specs.Reading.{token_texts, has_inner_quote, AreUnquoted, AddsToken, ParameterTokenFault, AllParametersFault}
+use Rattle.domain_types.specs.Reading.{ParametersFault, ParametersTexts}
+use Rattle.domain_svcb.specs.Parameters.{AreParameters, AddsParameter, AreGathered, is_consistent}
+use Rattle.domain_svcb.proofs.GatherLemmas.{gathered_are, refused_adds_none, one_after, length-octets_of, segments_eight}
+use Rattle.domain_svcb.specs.Values.{Parameter}
 use Rattle.domain_types.proofs.DataLemmas.{field_some}
 
 -- ---- what a token spells is a field of the kind
@@ -37,17 +42,6 @@ token_valid origin text labels valid (relative t ls other plain spelled joined) 
 
 name_field : (origin : Name) (text octets : List ℕ) → IsName origin → NameField origin text octets → IsWire octets
 name_field origin text octets valid (labels, token, is) = subst IsWire (sym is) (IsWire-wire_of labels (token_valid origin text labels valid token))
-
-length-octets_of : (segments : List ℕ) → length (octets_of segments) ≡ 2 * length segments
-length-octets_of [] = refl
-length-octets_of (s ∷ segments) = grind (arith, common_steps, (length-octets_of segments))
-
-segments_eight : (text segments : List ℕ) → IsColonHex text segments → length segments ≡ 8
-segments_eight text segments (inl whole) = whole.1
-segments_eight text segments (inr elided) =
-    let gap = 8 - length elided.head - length elided.tail in
-    let joined = ap length elided.value ∙ length-append (elided.head ++ _) elided.tail ∙ ap (λ n. n + length elided.tail) (length-append elided.head _) in
-    omega (arith, joined, elided.room, length-replicate {A = ℕ} gap 0)
 
 counted_valid : (string octets : List ℕ) → octets ≡ length string ∷ string → length octets ≡ 1 + slice_index octets 0
 counted_valid string octets is = subst (λ o. length o ≡ 1 + slice_index o 0) (sym is) (let e : suc (length string) ≡ 1 + length string = omega arith in e)
@@ -106,6 +100,8 @@ tail_valid origin tails.Base64 tokens octets valid is = tt
 tail_valid origin tails.Quoted tokens octets valid is = tt
 tail_valid origin tails.Opaque tokens octets valid is = tt
 tail_valid origin tails.Types tokens octets valid is = subst IsBitmap (sym is.bitmap) (IsBitmap-bitmap_octets (is_among is.types))
+tail_valid origin tails.Parameters tokens octets valid is =
+    subst (AreParameters 0) (sym is.wire) (gathered_are (token_texts tokens) is.all is.gathered)
 tail_valid origin (tails.Many field) tokens octets valid is = many_valid origin field tokens octets valid is
 tail_valid origin (tails.AtLeastOne field) tokens octets valid is =
     (some_octets origin field tokens octets valid is.0 is.1, many_valid origin field tokens octets valid is.1)
@@ -148,6 +144,9 @@ quoted_none : (tokens : List TokenText) (place : ℕ) (kind : DataFaultKind) (oc
     → (kind ≡ OutOfMemory → ⊥) → QuotedTexts tokens octets → ⊥
 quoted_none tokens place kinds.Missing octets wrong real is = let e = ap length (sym wrong.1 ∙ is.one) in omega (arith, e)
 quoted_none tokens place kinds.Extra octets wrong real is = omega (arith, wrong.1, ap length is.one)
+quoted_none tokens place kinds.Quoted octets wrong real is =
+    let same : wrong.1.0 ≡ is.token = let both : ◌≡◌ {A = List TokenText} (wrong.1.0 ∷ []) (is.token ∷ []) = sym wrong.1.1 ∙ is.one in cc in
+    let e : true ≡ false = sym wrong.1.2 ∙ ap has_inner_quote same ∙ is.plain in cc
 quoted_none tokens place (kinds.NotTail other) octets wrong real is = wrong.3 octets is
 quoted_none tokens place kinds.OutOfMemory octets wrong real is = real refl
 quoted_none tokens place kind octets wrong real is = wrong
@@ -163,6 +162,30 @@ types_none : (tokens : List TokenText) (place : ℕ) (kind : DataFaultKind) (typ
 types_none [] place kind types wrong real is = real wrong.1
 types_none (token ∷ tokens) place kind types (inl here) real is = type_none token kind is.0 here.1 real is.3
 types_none (token ∷ tokens) place kind types (inr later) real is = types_none tokens later.1.0 kind is.1 later.1.2 real is.4
+
+parameter_none : (token : TokenText) (before after : List Parameter) (kind : DataFaultKind) → ParameterTokenFault before token kind
+    → (kind ≡ OutOfMemory → ⊥) → token.is_quoted ≡ false → AddsParameter token.octets before after → ⊥
+parameter_none token before after kinds.Quoted wrong real unquoted adds = let e : true ≡ false = sym wrong ∙ unquoted in cc
+parameter_none token before after (kinds.NotParameter fault) wrong real unquoted adds =
+    refused_adds_none token.octets before after fault wrong.1 wrong.2 adds
+parameter_none token before after kinds.OutOfMemory wrong real unquoted adds = real refl
+parameter_none token before after kind wrong real unquoted adds = wrong
+
+end_none : (all : List Parameter) (kind : DataFaultKind) → AllParametersFault all kind → (kind ≡ OutOfMemory → ⊥) → is_consistent all ≡ true → ⊥
+end_none all (kinds.NotParameter fault) wrong real good = let e : true ≡ false = sym good ∙ wrong.1 in cc
+end_none all kinds.OutOfMemory wrong real good = real refl
+end_none all kind wrong real good = wrong
+
+parameters_none : (tokens : List TokenText) (before all : List Parameter) (place : ℕ) (kind : DataFaultKind)
+    → ParametersFault before tokens place kind → (kind ≡ OutOfMemory → ⊥) → AreUnquoted tokens → AreGathered before (token_texts tokens) all
+    → is_consistent all ≡ true → ⊥
+parameters_none [] before all place kind wrong real unquoted is good =
+    end_none before kind wrong.1 real (subst (λ a. is_consistent a ≡ true) is good)
+parameters_none (token ∷ tokens) before all place kind (inl here) real unquoted is good =
+    parameter_none token before is.0 kind here.1 real unquoted.0 is.1
+parameters_none (token ∷ tokens) before all place kind (inr later) real unquoted is good =
+    let same = one_after token.octets before is.0 later.0 is.1 later.1.adds in
+    parameters_none tokens later.0 all later.2.0 kind later.2.2 real unquoted.1 (subst (λ a. AreGathered a (token_texts tokens) all) same is.2) good
 
 least_none : (origin : Name) (field : Field) (tokens : List TokenText) (place : ℕ) (kind : DataFaultKind) (octets : List ℕ)
     → TailFault origin (tails.AtLeastOne field) tokens place kind → (kind ≡ OutOfMemory → ⊥)
@@ -184,6 +207,8 @@ tail_none origin tails.Base64 tokens place kind octets wrong real is = base_none
 tail_none origin tails.Quoted tokens place kind octets wrong real is = quoted_none tokens place kind octets wrong real is
 tail_none origin tails.Opaque tokens place kind octets wrong real is = is
 tail_none origin tails.Types tokens place kind octets wrong real is = types_none tokens place kind is.types wrong real is.spelled
+tail_none origin tails.Parameters tokens place kind octets wrong real is =
+    parameters_none tokens [] is.all place kind wrong real is.unquoted is.gathered is.consistent
 tail_none origin (tails.Many field) tokens place kind octets wrong real is = many_none origin field tokens place kind octets wrong real is
 tail_none origin (tails.AtLeastOne field) tokens place kind octets wrong real is = least_none origin field tokens place kind octets wrong real is
 tail_none origin (tails.AtMostOne field) tokens place kind octets wrong real is = most_none origin field tokens place kind octets wrong real is

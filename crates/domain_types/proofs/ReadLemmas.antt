@@ -1,20 +1,21 @@
 -- Data that tokens spell.
 use Rattle.std.proofs.Common.{◌≡◌, ℕ, zero, suc, ◌+◌, ◌-◌, ◌<◌, ◌≤◌, List, [], ◌∷◌, ◌++◌, length, get_or, take, drop, map, refl, sym, ap, ◌∙◌, subst, arith}
-use Rattle.std.proofs.Common.{inl, inr, false, add-one, drop-cons}
+use Rattle.std.proofs.Common.{inl, inr, true, false, add-one, drop-cons}
 use Rattle.std.proofs.lemmas.{Grind.common_steps, List.{append_assoc, append-nil, take_rest}}
 use Rattle.domain_names.specs.Name.{Name}
 use Rattle.domain_types.specs.Spelling.{FieldSpelling}
 use Rattle.domain_types.specs.declared.token.Token.{Token}
 use Rattle.domain_types.specs.Reading.{TokenText, token_text, SpellsField, TokenFault, ManyTexts, ManyFault, LayoutTexts, LayoutFault, AreRead}
-use Rattle.domain_types.specs.Reading.{AreUnquoted, token_texts}
+use Rattle.domain_types.specs.Reading.{AreUnquoted, token_texts, has_inner_quote}
 use Rattle.domain_types.specs.Reading.{TailTexts, TailFault, BaseTexts, BaseFault, QuotedFault, tail_kind}
-use Rattle.domain_types.specs.Spelling.{SpellsNothing, StringText}
+use Rattle.domain_svcb.specs.Strings.{SpellsNothing, StringText}
 use Rattle.domain_codecs.specs.{Codec.Decodes, declared.codec.Codec.Codec}
 use Rattle.std.specs.{List.{concat}}
-use Rattle.domain_types.specs.declared.spell.SpellFault.{SpellFault}
-use Rattle.domain_types.specs.declared.spell.SpellFault.TheVariants as spell
+use Rattle.domain_svcb.specs.declared.fault.SpellFault.{SpellFault}
+use Rattle.domain_svcb.specs.declared.fault.SpellFault.TheVariants as spell
 use Rattle.domain_types.specs.declared.field.Tail.TheVariants as tails
 use Rattle.domain_types.specs.declared.token.DataFaultKind.TheVariants.{Missing}
+use Rattle.domain_types.specs.declared.token.DataFaultKind.TheVariants as kinds
 use Rattle.domain_types.specs.declared.field.Tail.{Tail}
 use Rattle.domain_types.specs.declared.field.Field.{Field}
 use Rattle.domain_types.specs.declared.token.DataFaultKind.{DataFaultKind}
@@ -149,6 +150,10 @@ pub one_token : (tokens : List Token) → length tokens ≡ 1 → map token_text
 one_token [] one = absurd (omega (arith, one))
 one_token (t ∷ []) one = refl
 one_token (t ∷ u ∷ tokens) one = absurd (omega (arith, one))
+
+pub inner_fault : (tokens : List TokenText) (token : TokenText) (place : ℕ) (kind : DataFaultKind) → tokens ≡ token ∷ [] → has_inner_quote token ≡ true
+    → place ≡ 0 → kind ≡ kinds.Quoted → QuotedFault tokens place kind
+inner_fault tokens token place kind one inner at is = subst (QuotedFault tokens place) (sym is) (at, (token, one, inner))
 
 pub quoted_fault : (tokens : List TokenText) (token : TokenText) (fault : SpellFault) (place : ℕ) (kind : DataFaultKind) → tokens ≡ token ∷ []
     → SpellsNothing (StringText token.octets) fault → place ≡ 0 → kind ≡ tail_kind fault tails.Quoted → QuotedFault tokens place kind

@@ -8,7 +8,7 @@ use Rattle.domain_names.specs.{Name.{Name, IsName, IsLabel, wire_of}, Wire.{IsWi
 use Rattle.domain_names.proofs.WireLemmas.{length-wire_of}
 use Rattle.std.proofs.Math.Seq.{take-append-add}
 use Rattle.std.proofs.Common.{None, Option}
-use Rattle.domain_types.specs.Spelling.{NameToken, at_origin, absolute, relative, NameField, ends_in_dot, string_octet, StringText, string_ends, string_goes}
+use Rattle.domain_types.specs.Spelling.{NameToken, at_origin, absolute, relative, NameField, ends_in_dot}
 use Rattle.domain_types.specs.Spelling.{FieldSpelling, PlainText}
 use Rattle.domain_types.specs.declared.field.Field.{Field}
 use Rattle.domain_types.specs.declared.field.Field.TheVariants as fields
@@ -172,64 +172,6 @@ no_other_name origin own text octets other is relative_is long (labels, token, o
 pub no_name_text : (origin : Name) (text octets : List ℕ) → (text ≡ 64 ∷ [] → ⊥) → ((labels : Name) → NameText text labels → ⊥)
     → NameField origin text octets → ⊥
 no_name_text origin text octets other none (labels, token, octets_are) = no_text origin text labels other none token
-
--- ---- strings
-
--- the text spells these octets and then what the rest of it spells
-pub record ReadsString (text string rest : List ℕ) : Type 0 where
-  pub back : (more : List ℕ) → StringText rest more → StringText text (string ++ more)
-  pub forth : (all : List ℕ) → StringText text all → (more : List ℕ) × (all ≡ string ++ more) × StringText rest more
-
-pub string_begins : (text : List ℕ) → ReadsString text [] text
-string_begins text = record { back = λ more is. is; forth = λ all is. (all, refl, is) }
-
-next_octet : (rest more : List ℕ) (c used : ℕ) → string_octet rest ≡ Some (c, used) → StringText rest more
-    → (after : List ℕ) × (more ≡ c ∷ after) × StringText (drop used rest) after
-unfolding string_octet
-next_octet rest more c used here string_ends = absurd (let e = here in cc)
-next_octet rest more c used here (string_goes t s d taken is after) =
-    let same : ◌≡◌ {A = Option (ℕ × ℕ)} (Some (d, taken)) (Some (c, used)) = sym is ∙ here in
-    let pair_is : ◌≡◌ {A = ℕ × ℕ} (d, taken) (c, used) = cc in
-    let octet_is : d ≡ c = ap (λ p. p.0) pair_is in
-    let taken_is : taken ≡ used = ap (λ p. p.1) pair_is in
-    (s, ap (λ o. o ∷ s) octet_is, subst (λ n. StringText (drop n t) s) taken_is after)
-
-pub string_next : (text string rest next new : List ℕ) (c used : ℕ) → ReadsString text string rest → string_octet rest ≡ Some (c, used)
-    → next ≡ drop used rest → new ≡ string ++ c ∷ [] → ReadsString text new next
-string_next text string rest next new c used so here next_is new_is = record {
-  back = λ more is.
-      let whole = so.back (c ∷ more) (string_goes rest more c used here (subst (λ t. StringText t more) next_is is)) in
-      subst (StringText text) (sym (ap (λ s. s ++ more) new_is ∙ append_assoc string (c ∷ []) more)) whole;
-  forth = λ all is.
-      let found = so.forth all is in
-      let after = next_octet rest found.0 c used here found.2 in (
-        after.0,
-        found.1 ∙ ap (λ m. string ++ m) after.1 ∙ sym (append_assoc string (c ∷ []) after.0) ∙ sym (ap (λ s. s ++ after.0) new_is),
-        subst (λ t. StringText t after.0) (sym next_is) after.2,
-      );
-}
-
-pub string_ended : (text string rest : List ℕ) → ReadsString text string rest → rest ≡ [] → StringText text string
-string_ended text string rest so none = subst (StringText text) (append-nil string) (so.back [] (subst (λ t. StringText t []) (sym none) string_ends))
-
-pub string_long : (text string rest : List ℕ) (c used : ℕ) → ReadsString text string rest → string_octet rest ≡ Some (c, used)
-    → 255 < length string + 1 → (all : List ℕ) → StringText text all → 255 < length all
-string_long text string rest c used so here long all is =
-    let found = so.forth all is in
-    let after = next_octet rest found.0 c used here found.2 in
-    let size : length all ≡ length string + suc (length after.0) = ap length found.1 ∙ length-append string found.0
-    ∙ ap (λ m. length string + length m) after.1 in
-    omega (arith, size, long)
-
-stuck_text : (rest more : List ℕ) → string_octet rest ≡ None → 0 < length rest → StringText rest more → ⊥
-stuck_text rest more stuck some string_ends = omega (arith, some)
-stuck_text rest more stuck some (string_goes t s d taken is after) = let e : ◌≡◌ {A = Option (ℕ × ℕ)} (Some (d, taken)) None = sym is ∙ stuck in cc
-
-pub string_stuck : (text string rest : List ℕ) → ReadsString text string rest → string_octet rest ≡ None → 0 < length rest
-    → (all : List ℕ) → StringText text all → 255 < length all
-string_stuck text string rest so stuck some all is = let found = so.forth all is in absurd (stuck_text rest found.0 stuck some found.2)
-
-pub ruleset string_steps = (common_steps, string_begins, string_next, string_ended, string_long, string_stuck)
 
 -- ---- fields
 

@@ -11,17 +11,6 @@ use Rattle.domain_base.proofs.TextLemmas.{number_back as decimal_number}
 use Rattle.domain_types.specs.Mnemonics.{NumberOrMnemonic, as_mnemonic, in_decimal}
 use Rattle.domain_types.specs.Table.{type_rows, row_in, names_of, mnemonic_of, MnemonicText}
 
-digit_at : (c : ℕ) (digits : List ℕ) → digit_value c < 10 → IsAscii digits → (i : ℕ) → slice_index (c ∷ digits) i < 128
-digit_at c digits digit rest zero = grind (arith, common_steps, nat_tests)
-digit_at c digits digit rest (suc i) = rest i
-
-digits_ascii : (digits : List ℕ) → AllDigits 10 digits → IsAscii digits
-digits_ascii [] all = λ i. omega arith
-digits_ascii (c ∷ digits) all = λ i. digit_at c digits all.0 (digits_ascii digits all.1) i
-
-pub digits_text : (bits : ℕ) (digits : List ℕ) (n : ℕ) → IsNumber bits digits n → IsUtf8 digits
-digits_text bits digits n is = IsUtf8-from_ascii digits (digits_ascii digits is.digits.1)
-
 -- a text that begins with TYPE has it as its first four octets
 pub type_front : (text rest : List ℕ) → HasPrefix (codes "TYPE") text rest → map to_ascii_lowercase (take 4 text) ≡ map to_ascii_lowercase (codes "TYPE")
 type_front text rest has =

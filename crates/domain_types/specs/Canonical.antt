@@ -6,7 +6,7 @@ use Rattle.domain_names.specs.{Name.wire_of, Wire.labels_of}
 use Rattle.domain_types.specs.{Fields.{AreFieldOctets, shape_of}, Table.{fields_of, tail_of}}
 use Rattle.domain_types.specs.declared.field.Field.{Field, TheVariants.LoweredName}
 use Rattle.domain_types.specs.declared.field.Shape.{Shape}
-use Rattle.domain_types.specs.declared.field.Shape.TheVariants.{Exactly, Domain, Counted, Word, AfterTwo, AfterOne, TwoCounted, CountedInBits, CountedLong}
+use Rattle.domain_types.specs.declared.field.Shape.TheVariants.{Exactly, Domain, Counted, Word, AfterTwo, AfterOne, TwoCounted, CountedInBits}
 
 -- the octets are data of the type
 abbrev pub IsData : ℕ → Octets → Type 0
@@ -32,7 +32,6 @@ shape_size AfterOne octets = 1 + gateway_size (slice_index octets 0 % 128) (drop
 shape_size TwoCounted octets =
     4 + slice_index octets 0 + 256 * slice_index octets 2 + slice_index octets 3
 shape_size CountedInBits octets = 4 + slice_index octets 3 % 128
-shape_size CountedLong octets = 4 + 256 * slice_index octets 2 + slice_index octets 3
 
 unfoldable pub field_size : Field → Octets → ℕ
 field_size field octets = shape_size (shape_of field) octets

@@ -4,11 +4,12 @@ use Rattle.std.specs.{Char.is_ascii_alphanumeric, List.AllByRecursion, Prelude.I
 use Rattle.domain_octets.specs.Octets.{Octets}
 use Rattle.domain_names.specs.Wire.{IsWire}
 use Rattle.domain_bitmap.specs.Blocks.{IsBitmap}
+use Rattle.domain_svcb.specs.Parameters.{AreParameters}
 use Rattle.domain_types.specs.declared.field.Field.{Field}
 use Rattle.domain_types.specs.declared.field.Field.TheVariants as fields
 use Rattle.domain_types.specs.declared.field.Shape.{Shape}
-use Rattle.domain_types.specs.declared.field.Shape.TheVariants.{Exactly, Domain, Counted, Word, AfterTwo, AfterOne, TwoCounted, CountedInBits, CountedLong}
-use Rattle.domain_types.specs.declared.field.Tail.{Tail, TheVariants.{Nothing, Base16, Base64, Quoted, Opaque, Types, Many, AtLeastOne, AtMostOne}}
+use Rattle.domain_types.specs.declared.field.Shape.TheVariants.{Exactly, Domain, Counted, Word, AfterTwo, AfterOne, TwoCounted, CountedInBits}
+use Rattle.domain_types.specs.declared.field.Tail.{Tail, TheVariants.{Nothing, Base16, Base64, Quoted, Opaque, Types, Parameters, Many, AtLeastOne, AtMostOne}}
 
 -- ---- the fields, by their shapes
 
@@ -38,7 +39,6 @@ shape_of fields.Gateway = AfterTwo
 shape_of fields.Relay = AfterOne
 shape_of fields.HostIdentity = TwoCounted
 shape_of fields.Prefix = CountedInBits
-shape_of fields.Parameter = CountedLong
 
 -- an address or a name of this type: nothing, an IPv4 address, an IPv6 address, or a name (RFC
 -- 4025, section 2.3; RFC 8777, section 4.2.3)
@@ -70,8 +70,6 @@ IsShape AfterOne octets = HasGateway 1 (slice_index octets 0 % 128) octets
 IsShape TwoCounted octets =
     length octets ≡ 4 + slice_index octets 0 + 256 * slice_index octets 2 + slice_index octets 3
 IsShape CountedInBits octets = length octets ≡ 4 + slice_index octets 3 % 128
-IsShape CountedLong octets =
-    length octets ≡ 4 + 256 * slice_index octets 2 + slice_index octets 3
 
 abbrev pub IsField : Field → Octets → Type 0
 IsField field octets = IsShape (shape_of field) octets
@@ -96,6 +94,7 @@ IsTail Base64 octets = Unit {0}
 IsTail Quoted octets = Unit {0}
 IsTail Opaque octets = Unit {0}
 IsTail Types octets = IsBitmap octets
+IsTail Parameters octets = AreParameters 0 octets
 IsTail (Many field) octets = AreMany field octets
 IsTail (AtLeastOne field) octets = (0 < length octets) × AreMany field octets
 IsTail (AtMostOne field) octets = (octets ≡ []) ⊎ IsField field octets

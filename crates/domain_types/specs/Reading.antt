@@ -1,22 +1,27 @@
 -- Data of a type in presentation format: the octets that tokens spell, and the first fault (RFC
 -- 1035, section 5.1; RFC 3597, section 5).
-use Rattle.std.specs.Prelude.{◌≡◌, ℕ, ◌+◌, ◌<◌, ◌≤◌, ◌⊎◌, ◌&&◌, Bool, true, false, not, List, [], ◌∷◌, ◌++◌, length, map, drop, codes}
+use Rattle.std.specs.Prelude.{◌≡◌, ◌≢◌, ℕ, ◌+◌, ◌<◌, ◌≤◌, ◌⊎◌, ◌&&◌, ◌||◌, ◌==◌, Bool, true, false, not, if◌then◌else◌, List, [], ◌∷◌, ◌++◌, length}
+use Rattle.std.specs.Prelude.{map, drop, codes}
 use Rattle.std.specs.List.{concat, AllByRecursion}
-use Rattle.domain_octets.specs.Octets.{Octets}
+use Rattle.domain_octets.specs.{Octets.Octets, Text.{quote, backslash}}
 use Rattle.domain_names.specs.Name.{Name}
 use Rattle.domain_base.specs.{Scan.{IsNumber}, Types.Rtypes}
 use Rattle.domain_bitmap.specs.{Bitmap.bitmap_octets, Text.is_among}
 use Rattle.domain_codecs.specs.{Codec.Decodes, declared.codec.Codec.{Codec}}
 use Rattle.domain_codecs.specs.declared.codec.Codec.TheVariants as codecs
-use Rattle.domain_types.specs.{Canonical.IsData, Spelling.{FieldSpelling, NameToken, StringText}, Table.{fields_of, tail_of, MnemonicText}}
+use Rattle.domain_types.specs.{Canonical.IsData, Spelling.{FieldSpelling, NameToken}, Table.{fields_of, tail_of, MnemonicText}}
 use Rattle.domain_types.specs.declared.field.Field.{Field, TheVariants.CharacterString}
 use Rattle.domain_types.specs.declared.field.Tail.{Tail}
 use Rattle.domain_types.specs.declared.field.Tail.TheVariants as tails
-use Rattle.domain_types.specs.declared.spell.SpellFault.{SpellFault}
-use Rattle.domain_types.specs.declared.spell.SpellFault.TheVariants as spell
+use Rattle.domain_svcb.specs.{Strings.StringText, Values.Parameter}
+use Rattle.domain_svcb.specs.Parameters.{AddsParameter, RefusesParameter, AreGathered, is_consistent, parameters_octets}
+use Rattle.domain_svcb.specs.declared.fault.SpellFault.{SpellFault}
+use Rattle.domain_svcb.specs.declared.fault.SpellFault.TheVariants as spell
+use Rattle.domain_svcb.specs.declared.fault.ParameterFault.TheVariants as parameter_fault
 use Rattle.domain_types.specs.declared.token.Token.{Token}
 use Rattle.domain_types.specs.declared.token.DataFaultKind.{DataFaultKind}
-use Rattle.domain_types.specs.declared.token.DataFaultKind.TheVariants.{Missing, Extra, Quoted, NotField, NotTail, NoText, NotGeneric, NotData, OutOfMemory}
+use Rattle.domain_types.specs.declared.token.DataFaultKind.TheVariants.{Missing, Extra, Quoted, NotField, NotTail, NotParameter, NoText, NotGeneric}
+use Rattle.domain_types.specs.declared.token.DataFaultKind.TheVariants.{NotData, OutOfMemory}
 use Rattle.domain_types.specs.declared.name.NameTokenError.{NameTokenError, TheVariants.{NoName}}
 use Rattle.domain_types.specs.declared.name.NameTokenError.TheVariants as name_error
 
@@ -32,20 +37,27 @@ token_text token = record { octets = token.octets.now; is_quoted = token.is_quot
 abbrev pub token_texts : List TokenText → List Octets
 token_texts = map (λ token. token.octets)
 
+-- whether a quote is in octets that no backslash takes; `taken` says that one comes before them
+abbrev pub has_quote : Bool → Octets → Bool
+has_quote taken [] = false
+has_quote taken (c ∷ octets) =
+    if taken then has_quote false octets
+    else (if c == quote then true else has_quote (c == backslash) octets)
+
+-- whether quotes are in the token and not around it, as after an equals sign
+abbrev pub has_inner_quote : TokenText → Bool
+has_inner_quote token = not token.is_quoted && has_quote false token.octets
+
 -- the token spells the name, without quotes
 pub record SpellsName (origin : Name) (token : TokenText) (name : Name) : Type 0 where
   pub unquoted : token.is_quoted ≡ false
+  pub plain : has_inner_quote token ≡ false
   pub spelled : NameToken origin token.octets name
 
 -- it spells none, or memory ran out
 abbrev pub SpellsNoName : Name → TokenText → NameTokenError → Type 0
 SpellsNoName origin token NoName = (name : Name) → SpellsName origin token name → ⊥
 SpellsNoName origin token name_error.OutOfMemory = Unit {0}
-
--- octets were appended
-pub record Grows (old new : Octets) : Type 0 where
-  pub part : Octets
-  pub joined : new ≡ old ++ part
 
 -- ---- fields
 
@@ -54,7 +66,8 @@ may_be_quoted CharacterString = true
 may_be_quoted _ = false
 
 abbrev pub is_misquoted : Field → TokenText → Bool
-is_misquoted field token = token.is_quoted && not (may_be_quoted field)
+is_misquoted field token =
+    has_inner_quote token || (token.is_quoted && not (may_be_quoted field))
 
 -- the token spells the octets of a field of this kind
 pub record SpellsField (origin : Name) (field : Field) (token : TokenText) (octets : Octets)
@@ -105,6 +118,7 @@ tail_kind spell.OutOfMemory tail = OutOfMemory
 pub record QuotedTexts (tokens : List TokenText) (octets : Octets) : Type 0 where
   pub token : TokenText
   pub one : tokens ≡ token ∷ []
+  pub plain : has_inner_quote token ≡ false
   pub text : StringText token.octets octets
 
 -- the token spells a type, without quotes
@@ -126,6 +140,15 @@ pub record BitmapTexts (tokens : List TokenText) (octets : Octets) : Type 0 wher
   pub spelled : MnemonicTexts tokens types
   pub bitmap : octets ≡ bitmap_octets (is_among types)
 
+-- the tokens, without quotes around them, add parameters one by one, which go together, and the
+-- octets are all of them in the order of their keys (RFC 9460, sections 2.1 and 2.2)
+pub record ParametersTexts (tokens : List TokenText) (octets : Octets) : Type 0 where
+  pub all : List Parameter
+  pub unquoted : AreUnquoted tokens
+  pub gathered : AreGathered [] (token_texts tokens) all
+  pub consistent : is_consistent all ≡ true
+  pub wire : octets ≡ parameters_octets all
+
 -- the tokens spell the octets of this tail; the kinds without a text of their own are spelled by no
 -- tokens: their data are read in the generic form
 abbrev pub TailTexts : Name → Tail → List TokenText → Octets → Type 0
@@ -135,6 +158,7 @@ TailTexts origin tails.Base64 tokens octets = BaseTexts codecs.Base64 tokens oct
 TailTexts origin tails.Quoted tokens octets = QuotedTexts tokens octets
 TailTexts origin tails.Opaque tokens octets = ⊥
 TailTexts origin tails.Types tokens octets = BitmapTexts tokens octets
+TailTexts origin tails.Parameters tokens octets = ParametersTexts tokens octets
 TailTexts origin (tails.Many field) tokens octets = ManyTexts origin field tokens octets
 TailTexts origin (tails.AtLeastOne field) tokens octets =
     (0 < length tokens) × ManyTexts origin field tokens octets
@@ -154,6 +178,8 @@ BaseFault codec tail tokens place kind = ⊥
 abbrev pub QuotedFault : List TokenText → ℕ → DataFaultKind → Type 0
 QuotedFault tokens place Missing = (place ≡ 0) × (tokens ≡ [])
 QuotedFault tokens place Extra = (place ≡ 1) × (1 < length tokens)
+QuotedFault tokens place Quoted =
+    (place ≡ 0) × ((token : TokenText) × (tokens ≡ token ∷ []) × (has_inner_quote token ≡ true))
 QuotedFault tokens place (NotTail other) =
     (place ≡ 0) × (other ≡ tails.Quoted) × (length tokens ≡ 1)
     × ((octets : Octets) → QuotedTexts tokens octets → ⊥)
@@ -177,6 +203,36 @@ MnemonicFault (token ∷ tokens) place kind =
     ⊎ (((t : ℕ) × SpellsType token t)
     × ((before : ℕ) × (place ≡ before + 1) × MnemonicFault tokens before kind))
 
+-- the token, without quotes around it, adds a parameter
+pub record AddsToken (token : TokenText) (before after : List Parameter) : Type 0 where
+  pub unquoted : token.is_quoted ≡ false
+  pub adds : AddsParameter token.octets before after
+
+-- the fault of a token that has to add a parameter to these
+abbrev pub ParameterTokenFault : List Parameter → TokenText → DataFaultKind → Type 0
+ParameterTokenFault before token Quoted = token.is_quoted ≡ true
+ParameterTokenFault before token (NotParameter fault) =
+    (token.is_quoted ≡ false) × RefusesParameter token.octets before fault
+    × (fault ≢ parameter_fault.OutOfMemory)
+ParameterTokenFault before token OutOfMemory = Unit {0}
+ParameterTokenFault before token kind = ⊥
+
+-- the fault of parameters that are all there
+abbrev pub AllParametersFault : List Parameter → DataFaultKind → Type 0
+AllParametersFault all (NotParameter fault) =
+    (fault ≡ parameter_fault.NotConsistent) × (is_consistent all ≡ false)
+AllParametersFault all OutOfMemory = Unit {0}
+AllParametersFault all kind = ⊥
+
+-- the first token that adds no parameter to those before it, by its place, and its fault; behind
+-- the tokens the fault of all parameters
+abbrev pub ParametersFault : List Parameter → List TokenText → ℕ → DataFaultKind → Type 0
+ParametersFault before [] place kind = (place ≡ 0) × AllParametersFault before kind
+ParametersFault before (token ∷ tokens) place kind =
+    ((place ≡ 0) × ParameterTokenFault before token kind)
+    ⊎ ((after : List Parameter) × AddsToken token before after
+    × ((earlier : ℕ) × (place ≡ earlier + 1) × ParametersFault after tokens earlier kind))
+
 -- the first fault of tokens that have to spell this tail, by its place
 abbrev pub TailFault : Name → Tail → List TokenText → ℕ → DataFaultKind → Type 0
 TailFault origin tails.Nothing tokens place kind =
@@ -188,6 +244,7 @@ TailFault origin tails.Base64 tokens place kind =
 TailFault origin tails.Quoted tokens place kind = QuotedFault tokens place kind
 TailFault origin tails.Opaque tokens place kind = (place ≡ 0) × (kind ≡ NoText)
 TailFault origin tails.Types tokens place kind = MnemonicFault tokens place kind
+TailFault origin tails.Parameters tokens place kind = ParametersFault [] tokens place kind
 TailFault origin (tails.Many field) tokens place kind = ManyFault origin field tokens place kind
 TailFault origin (tails.AtLeastOne field) tokens place kind =
     ((place ≡ 0) × (kind ≡ Missing) × (tokens ≡ [])) ⊎ ManyFault origin field tokens place kind

@@ -7,6 +7,7 @@ use Rattle.domain_octets.specs.{Octets.Octets, Text.{dot, at_sign, backslash, di
 use Rattle.domain_names.specs.{Name.{Name, IsName, wire_of}, Text.NameText}
 use Rattle.domain_base.specs.Scan.{IsNumber}
 use Rattle.domain_bitmap.specs.Text.{SaltText, OwnerHashText}
+use Rattle.domain_svcb.specs.Strings.{StringText}
 use Rattle.domain_types.specs.{Table.MnemonicText, Fields.IsTag, Ttls.ttl_text, Times.StampText}
 use Rattle.domain_types.specs.Addresses.{EuiText, LocatorText}
 use Rattle.domain_types.specs.Mnemonics.{ByteOrMnemonic, ShortOrMnemonic, algorithm_names, certificate_names, scheme_names}
@@ -14,7 +15,6 @@ use Rattle.domain_types.specs.declared.ttl.TtlText.{TheVariants.Seconds}
 use Rattle.domain_types.specs.declared.field.Field.{Field}
 use Rattle.domain_types.specs.declared.field.Field.TheVariants as fields
 use Rattle.domain_types.specs.declared.spell.Going.{Going, TheVariants.{Inside, Escaped, AfterDot}}
-use Rattle.domain_types.specs.declared.spell.SpellFault.{SpellFault, TheVariants.{Invalid, OutOfMemory}}
 
 -- ---- names
 
@@ -45,31 +45,6 @@ pub data NameToken (origin : Name) : Octets → Name → Type 0 where
 abbrev pub NameField : Name → Octets → Octets → Type 0
 NameField origin text octets =
     (labels : Name) × NameToken origin text labels × (octets ≡ wire_of labels)
-
--- ---- strings
-
--- the octet that the characters after a backslash spell, and how many characters spell it, with the
--- backslash: three digits up to 255, or one character that is no digit
-abbrev pub escaped_octet : Octets → Option (ℕ × ℕ)
-escaped_octet (a ∷ b ∷ c ∷ text) =
-    let value = (a - digit_zero) * 100 + (b - digit_zero) * 10 + (c - digit_zero) in
-    if is_ascii_digit a
-    then (if is_ascii_digit b && (is_ascii_digit c && nat_le value 255) then Some (value, 4)
-    else None)
-    else Some (a, 2)
-escaped_octet (a ∷ text) = if is_ascii_digit a then None else Some (a, 2)
-escaped_octet [] = None
-
--- the octet that a text of a string begins with, and how many characters spell it
-unfoldable pub string_octet : Octets → Option (ℕ × ℕ)
-string_octet [] = None
-string_octet (c ∷ text) = if c == backslash then escaped_octet text else Some (c, 1)
-
--- the text spells the octets of a string, one after another
-pub data StringText : Octets → Octets → Type 0 where
-  string_ends : StringText [] []
-  string_goes : (text string : Octets) (c used : ℕ) → string_octet text ≡ Some (c, used)
-      → StringText (drop used text) string → StringText text (c ∷ string)
 
 -- ---- the fields, one token each
 
@@ -149,10 +124,3 @@ abbrev pub FieldSpelling : Name → Field → Octets → Octets → Type 0
 FieldSpelling origin fields.LoweredName text octets = NameField origin text octets
 FieldSpelling origin fields.Name text octets = NameField origin text octets
 FieldSpelling origin field text octets = PlainText field text octets
-
--- ---- the reasons why a token gives no field
-
--- no value is spelled, or memory ran out
-abbrev pub SpellsNothing : {V : Type 0} → (V → Type 0) → SpellFault → Type 0
-SpellsNothing {V} SpellsField Invalid = (v : V) → SpellsField v → ⊥
-SpellsNothing SpellsField OutOfMemory = Unit {0}

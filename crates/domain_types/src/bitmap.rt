@@ -4,7 +4,8 @@ ghost use Rattle.domain_octets.specs.Octets.{Octets};
 ghost use Rattle.domain_base.specs.Types.{Rtypes};
 ghost use Rattle.domain_bitmap.specs.{Blocks.holds, Bitmap.bitmap_octets, Text.is_among};
 ghost use Rattle.domain_types.specs.Reading.{token_text, SpellsType, TypeTokenFault, MnemonicTexts};
-ghost use Rattle.domain_types.specs.Reading.{MnemonicFault, BitmapTexts, Grows};
+ghost use Rattle.domain_types.specs.Reading.{MnemonicFault, BitmapTexts};
+ghost use Rattle.domain_svcb.specs.Strings.{Grows};
 
 use crate::field::Tail;
 use crate::lookup::rtype_of;

@@ -10,6 +10,7 @@ use crate::lookup::row_of;
 use crate::measure::field_len;
 use domain_base::Rtype;
 use domain_bitmap::RtypeBitmap;
+use domain_svcb::are_parameters;
 use std::alloc::AllocError;
 
 /// Returns what follows these fields, if the octets begin with them.
@@ -58,6 +59,7 @@ fn is_tail(tail: Tail, octets: &[u8]) -> bool
         Tail::Nothing => octets.is_empty(),
         Tail::Base16 | Tail::Base64 | Tail::Quoted | Tail::Opaque => true,
         Tail::Types => RtypeBitmap::from_octets(octets).is_ok(),
+        Tail::Parameters => are_parameters(octets),
         Tail::Many(field) => are_many(field, octets),
         Tail::AtLeastOne(field) => !octets.is_empty() && are_many(field, octets),
         Tail::AtMostOne(field) => octets.is_empty() || is_one(field, octets),

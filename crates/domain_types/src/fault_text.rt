@@ -31,7 +31,6 @@ impl fmt::Display for Field {
             Field::Relay => "a relay",
             Field::HostIdentity => "a host identity",
             Field::Prefix => "a prefix of addresses",
-            Field::Parameter => "a parameter of a service",
         })
     }
 }
@@ -46,6 +45,7 @@ impl fmt::Display for Tail {
             Tail::Quoted => f.write_str("one string"),
             Tail::Opaque => f.write_str("the generic form \\#"),
             Tail::Types => f.write_str("types of records"),
+            Tail::Parameters => f.write_str("parameters of a service"),
             Tail::Many(field) | Tail::AtLeastOne(field) | Tail::AtMostOne(field) => {
                 write!(f, "{field}")
             }
@@ -58,9 +58,10 @@ impl fmt::Display for DataFaultKind {
         match self {
             DataFaultKind::Missing => f.write_str("a field of the data is missing"),
             DataFaultKind::Extra => f.write_str("more than the data of the type"),
-            DataFaultKind::Quoted => f.write_str("quotes around a field that has none"),
+            DataFaultKind::Quoted => f.write_str("quotes where the field has none"),
             DataFaultKind::NotField(field) => write!(f, "expected {field}"),
             DataFaultKind::NotTail(tail) => write!(f, "expected {tail}"),
+            DataFaultKind::NotParameter(fault) => write!(f, "{fault}"),
             DataFaultKind::NoText => f.write_str("write data of this type as \\# LENGTH HEX"),
             DataFaultKind::NotGeneric => f.write_str("expected \\# LENGTH HEX"),
             DataFaultKind::NotData => f.write_str("the octets are no data of the type"),

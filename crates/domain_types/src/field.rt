@@ -56,8 +56,6 @@ pub enum Field {
     HostIdentity,
     /// A prefix of addresses of a family (RFC 3123, section 4).
     Prefix,
-    /// A key of 16 bits and a value with its length in 16 bits (RFC 9460, section 2.2).
-    Parameter,
 }
 
 /// How the octets of a field lie on the wire.
@@ -79,8 +77,6 @@ pub(crate) enum Shape {
     TwoCounted,
     /// Four octets, of which the last seven bits are the length, and as many octets.
     CountedInBits,
-    /// Two octets, a length of 16 bits, and as many octets.
-    CountedLong,
 }
 
 /// What follows the fields, up to the end of the data.
@@ -98,6 +94,8 @@ pub enum Tail {
     Opaque,
     /// The types of a bitmap (RFC 4034, section 4.1.2).
     Types,
+    /// Parameters of a service, in the order of their keys (RFC 9460, section 2.2).
+    Parameters,
     /// Any number of fields of a kind.
     Many(Field),
     /// One or more fields of a kind.
@@ -132,7 +130,6 @@ impl Field {
             Field::Relay => Shape::AfterOne,
             Field::HostIdentity => Shape::TwoCounted,
             Field::Prefix => Shape::CountedInBits,
-            Field::Parameter => Shape::CountedLong,
         }
     }
 }

@@ -16,8 +16,8 @@
 //! begins octets in at most one way, so data are their fields in one way. What is read is data of
 //! the type, and tokens with a fault spell none. The module `laws` has these laws.
 //!
-//! Data of some kinds are read in the generic form only: locations, gateways, host identities,
-//! address prefixes and parameters of services, and data of old types.
+//! Data of some kinds are read in the generic form only: locations, gateways, host identities and
+//! address prefixes, and data of old types.
 #![tactic(auto)]
 
 mod address;
@@ -32,6 +32,7 @@ mod lookup;
 mod measure;
 mod name;
 mod named;
+mod parameters;
 mod read;
 mod spell;
 mod table;

@@ -6,9 +6,9 @@ ghost use Rattle.domain_base.specs.Scan.{IsNumber};
 ghost use Rattle.domain_types.specs.Table.{type_row, type_rows, row_in, names_of, mnemonic_of, MnemonicText};
 
 use crate::field::Tail;
-use crate::spell::number;
 use crate::table::{Row, rows};
 use domain_base::Rtype;
+use domain_svcb::number_of;
 
 /// Returns the row of a type in the table. A type without a row has octets of any form.
 fn find(table: &[Row], number: u16) -> Row
@@ -72,14 +72,6 @@ fn after_type(text: &[u8]) -> Option<&[u8]>
         return None;
     }
     Some(rest)
-}
-
-/// Returns the number of at most 16 bits that decimal digits spell.
-pub(crate) fn number_of(digits: &[u8]) -> Option<u16>
-    ensures some { IfSome result (IsNumber 16 digits.now) }
-    ensures none { IfNone result ((n : ℕ) → IsNumber 16 digits.now n → ⊥) }
-{
-    u16::try_from(number(digits)?).ok()
 }
 
 /// Returns the type that a text spells: by its mnemonic, or by `TYPE` and its number, in either

@@ -115,6 +115,5 @@ pub(crate) fn field_len(field: Field, octets: &[u8]) -> Option<usize>
             octets,
         ),
         Shape::CountedInBits => within(4 + octet_at(octets, 3) % 128, octets),
-        Shape::CountedLong => within(4 + 256 * octet_at(octets, 2) + octet_at(octets, 3), octets),
     }
 }

@@ -3,16 +3,17 @@ ghost use Rattle.std.specs.Prelude.{◌≡◌, IfOk, IfErr};
 ghost use Rattle.domain_names.specs.Wire.{IsWire, labels_of};
 ghost use Rattle.domain_types.specs.Reading.{token_text, SpellsName, SpellsNoName};
 
-use crate::spell::{Part, SpellFault, spell_name};
-use crate::token::Token;
+use crate::spell::{Part, spell_name};
+use crate::token::{Token, has_inner_quote};
 use domain_base::{Name, ParsedName};
 use domain_octets::{Octets, OctetsFrom, OutOfMemory, SmallOctets};
+use domain_svcb::SpellFault;
 use std::alloc::Global;
 
 /// The reason why a token gives no name.
 #[derive(Clone, Copy, Debug, PartialEq, Eq)]
 pub enum NameTokenError {
-    /// The token has quotes, or spells no name of at most 255 octets.
+    /// The token has quotes around it or in it, or spells no name of at most 255 octets.
     NoName,
     /// Memory ran out.
     OutOfMemory,
@@ -32,9 +33,9 @@ fn name_of(alloc: Global, part: &Part) -> Result<Name<SmallOctets>, OutOfMemory>
 ///
 /// # Errors
 ///
-/// - `NoName` if the token has quotes, or spells no name of at most 255 octets.
+/// - `NoName` if the token has quotes around it or in it, or spells no name of at most 255 octets.
 /// - `OutOfMemory` if there is no memory for the name.
-#[tactic(auto, using(std::proofs::lemmas::Grind::common_steps, crate::proofs::NameLemmas::none_named))]
+#[tactic(auto, using(std::proofs::lemmas::Grind::common_steps, crate::proofs::NameLemmas::none_named, crate::proofs::NameLemmas::no_plain_name))]
 pub fn read_name(
     alloc: Global,
     token: &Token<'_>,
@@ -44,6 +45,9 @@ pub fn read_name(
     ensures err { IfErr result (SpellsNoName origin.now (token_text token.now)) }
 {
     if token.is_quoted {
+        return Err(NameTokenError::NoName);
+    }
+    if has_inner_quote(token) {
         return Err(NameTokenError::NoName);
     }
     let part = match spell_name(alloc, token.octets, origin) {

@@ -5,7 +5,8 @@ ghost use Rattle.domain_base.specs.Numbers.{entries, number_named};
 ghost use Rattle.domain_types.specs.Mnemonics.{algorithm_names, certificate_names, scheme_names};
 ghost use Rattle.domain_types.specs.Mnemonics.{NumberOrMnemonic, ByteOrMnemonic, ShortOrMnemonic};
 
-use crate::spell::{Part, number, part_of};
+use crate::spell::{Part, part_of};
+use domain_svcb::number;
 
 /// Returns the algorithms of DNSSEC: IANA's mnemonics, and then those of BIND.
 pub(crate) fn algorithms() -> &'static [(u16, &'static str)]

@@ -3,14 +3,14 @@ ghost use Rattle.std.specs.Prelude.{◌≡◌, ◌+◌, ◌++◌, ◌<◌, ◌�
 ghost use Rattle.domain_octets.specs.Octets.{Octets};
 ghost use Rattle.domain_types.specs.Spelling.{FieldSpelling};
 ghost use Rattle.domain_types.specs.Reading.{token_text, may_be_quoted, is_misquoted, SpellsField};
-ghost use Rattle.domain_types.specs.Reading.{TokenFault, ManyTexts, ManyFault, Grows};
+ghost use Rattle.domain_types.specs.Reading.{TokenFault, ManyTexts, ManyFault};
 ghost use Rattle.domain_types.specs.Reading.{LayoutFault, AreRead, AreUnquoted, token_texts};
 ghost use Rattle.domain_types.specs.Reading.{TailTexts, TailFault, LayoutTexts, IsMarked, GenericTexts};
 ghost use Rattle.domain_types.specs.Reading.{GenericTextsFault, DataTexts, DataTextFault};
 ghost use Rattle.domain_types.specs.Canonical.{IsData};
 ghost use Rattle.domain_types.specs.Reading.{BaseTexts, BaseFault, QuotedTexts, QuotedFault, tail_kind};
 ghost use Rattle.domain_codecs.specs.declared.codec.Codec.{Codec};
-ghost use Rattle.domain_types.specs.Spelling.{SpellsNothing, StringText};
+ghost use Rattle.domain_svcb.specs.Strings.{SpellsNothing, StringText, Grows};
 ghost use Rattle.domain_types.specs.declared.field.Tail.{Tail};
 ghost use Rattle.domain_codecs.specs.Codec.{Decodes};
 ghost use Rattle.domain_codecs.specs.declared.codec.Codec.TheVariants as codecs;
@@ -19,22 +19,24 @@ ghost use Rattle.std.specs.{List.concat, Prelude.MatchOption};
 use crate::bitmap::put_types;
 use crate::data::is_data;
 use crate::field::{Field, Tail};
-use crate::lookup::{number_of, row_of};
-use crate::spell::{SpellFault, spell, string_octet};
+use crate::lookup::row_of;
+use crate::parameters::put_parameters;
+use crate::spell::spell;
 use crate::table::Row;
-use crate::token::{DataFault, DataFaultKind, Token};
+use crate::token::{DataFault, DataFaultKind, Token, has_inner_quote};
 use base64::DecodeAllocError;
 use base64::engine::general_purpose::STANDARD;
 use domain_base::{ParsedName, Rtype};
 use domain_octets::Octets;
+use domain_svcb::{SpellFault, number_of, put_string};
 use hex::FromHexError;
 use std::alloc::{AllocError, Global};
 
-/// Returns whether quotes are around a token that has to spell a field without quotes.
+/// Returns whether quotes are in a token, or around one that has to spell a field without quotes.
 fn is_misquoted(field: Field, token: &Token<'_>) -> bool
     ensures { result ≡ is_misquoted field (token_text token.now) }
 {
-    token.is_quoted && field != Field::CharacterString
+    has_inner_quote(token) || token.is_quoted && field != Field::CharacterString
 }
 
 /// Appends the field that a token spells.
@@ -158,27 +160,6 @@ fn decode64(alloc: Global, text: &[u8]) -> Result<Vec<u8>, SpellFault>
     }
 }
 
-/// Appends the octets of the string that a text spells.
-fn put_string(text: &[u8], out: &mut Vec<u8>) -> Result<(), SpellFault>
-    ensures ok { OnOk result ((string : Octets) × StringText text.now string
-        × (out.new.items ≡ out.old.items ++ string)) }
-    ensures err { IfErr result (SpellsNothing (StringText text.now)) }
-    ensures grows { Grows out.old.items out.new.items }
-{
-    let mut rest = text;
-    'octets: while let Some((octet, used)) = string_octet(rest) {
-        if out.push(octet).is_err() {
-            return Err(SpellFault::OutOfMemory);
-        }
-        rest = &rest[used..];
-    }
-    if rest.is_empty() {
-        Ok(())
-    } else {
-        Err(SpellFault::Invalid)
-    }
-}
-
 /// Appends octets.
 fn append(octets: &[u8], out: &mut Vec<u8>) -> Result<(), DataFault>
     ensures ok { OnOk result (out.new.items ≡ out.old.items ++ octets.now) }
@@ -291,6 +272,9 @@ fn put_quoted(tokens: &[Token<'_>], out: &mut Vec<u8>) -> Result<(), DataFault>
         let kind = DataFaultKind::Extra;
         return Err(DataFault { token: 1, kind });
     }
+    if has_inner_quote(&tokens[0]) {
+        return Err(first(DataFaultKind::Quoted));
+    }
     match put_string(tokens[0].octets, out) {
         Ok(()) => Ok(()),
         Err(fault) => Err(fault_of(fault, Tail::Quoted)),
@@ -322,6 +306,7 @@ fn put_tail(
         Tail::Quoted => put_quoted(tokens, out),
         Tail::Opaque => Err(first(DataFaultKind::NoText)),
         Tail::Types => put_types(alloc, tokens, out),
+        Tail::Parameters => put_parameters(alloc, tokens, out),
         Tail::Many(field) => put_many(alloc, field, tokens, origin, out),
         Tail::AtLeastOne(_) if tokens.is_empty() => Err(first(DataFaultKind::Missing)),
         Tail::AtLeastOne(field) => put_many(alloc, field, tokens, origin, out),

@@ -4,10 +4,11 @@ ghost use Rattle.std.specs.{Int.{w16, w32, to_be_bytes}};
 ghost use Rattle.domain_octets.specs.{Octets.Octets, Text.at_sign};
 ghost use Rattle.domain_base.specs.Scan.{IsNumber};
 ghost use Rattle.domain_names.specs.{Name.{wire_of, IsName}, Text.{NameText, NameTextFault, scan_fault_of}, Wire.{IsWire, labels_of}};
-ghost use Rattle.domain_types.specs.Spelling.{going_on, ends_in_dot, NameField, NameToken, string_octet, StringText};
+ghost use Rattle.domain_types.specs.Spelling.{going_on, ends_in_dot, NameField, NameToken};
 ghost use Rattle.domain_types.specs.Spelling.{ByteText, ShortText, LongText, TypeField, TagText};
 ghost use Rattle.domain_types.specs.Spelling.{LongAddressText, StringField, PlainText, FieldSpelling};
-ghost use Rattle.domain_types.specs.Spelling.{SpellsNothing, PeriodField};
+ghost use Rattle.domain_types.specs.Spelling.{PeriodField};
+ghost use Rattle.domain_svcb.specs.Strings.{SpellsNothing, StringText};
 ghost use Rattle.std.specs.Net.Grammar.{IsDotted};
 
 use crate::address::{spell_eui, spell_locator};
@@ -20,8 +21,9 @@ use crate::named::{
 };
 use crate::time::spell_time;
 use crate::ttl::{TtlText, read_ttl};
-use domain_base::{FromToken, MAX_NAME, Name, ParsedName, ScanError, ToName};
+use domain_base::{MAX_NAME, Name, ParsedName, ScanError, ToName};
 use domain_octets::{ArrayBuilder, Octets, OctetsBuilder, SmallOctets};
+use domain_svcb::{SpellFault, number, string_octet};
 use std::alloc::Global;
 use std::net::{Ipv4Addr, Ipv6Addr};
 
@@ -30,15 +32,6 @@ pub(crate) type Part = ArrayBuilder<256>;
 
 /// The greatest number of octets of a string (RFC 1035, section 3.3).
 pub(crate) const MAX_STRING: usize = 255;
-
-/// The reason why a token gives no field.
-#[derive(Clone, Copy)]
-pub(crate) enum SpellFault {
-    /// The token does not spell a field of the kind.
-    Invalid,
-    /// Memory ran out.
-    OutOfMemory,
-}
 
 /// How the text of a name goes on.
 #[derive(Clone, Copy)]
@@ -61,17 +54,6 @@ pub(crate) fn part_of(octets: &[u8]) -> Part
         unreachable!();
     };
     part
-}
-
-/// Returns the number of at most 32 bits that decimal digits spell.
-pub(crate) fn number(digits: &[u8]) -> Option<u32>
-    ensures some { IfSome result (IsNumber 32 digits.now) }
-    ensures none { IfNone result ((n : ℕ) → IsNumber 32 digits.now n → ⊥) }
-{
-    match str::from_utf8(digits) {
-        Ok(text) => u32::from_token(text).ok(),
-        Err(_) => None,
-    }
 }
 
 /// Returns how a text goes on after one more character.
@@ -193,28 +175,8 @@ pub(crate) fn spell_name(
     }
 }
 
-/// Returns the octet that a text of a string begins with, and the number of characters that spell
-/// it.
-#[tactic(auto, unfolding(crate::specs::Spelling::string_octet))]
-pub(crate) fn string_octet(text: &[u8]) -> Option<(u8, usize)>
-    ensures value { result ≡ string_octet text.now }
-    ensures used { IfSome result (λ s. (0 < s.1) × (s.1 ≤ length text.now)) }
-{
-    match text {
-        [b'\\', a, b, c, ..] if a.is_ascii_digit() && b.is_ascii_digit() && c.is_ascii_digit() => {
-            let value = u16::from(*a - b'0') * 100
-                + u16::from(*b - b'0') * 10
-                + u16::from(*c - b'0');
-            Some((u8::try_from(value).ok()?, 4))
-        }
-        [b'\\', a, ..] if !a.is_ascii_digit() => Some((*a, 2)),
-        [c, ..] if *c != b'\\' => Some((*c, 1)),
-        _ => None,
-    }
-}
-
 /// Returns the octets of the string that a text spells, if it has at most 255.
-#[tactic(auto, using(crate::proofs::SpellLemmas::string_steps))]
+#[tactic(auto, using(domain_svcb::proofs::StringLemmas::string_steps))]
 fn read_string(text: &[u8]) -> Option<ArrayBuilder<MAX_STRING>>
     ensures some { IfSome result (λ string. StringText text.now string × (length string ≤ 255)) }
     ensures none { IfNone result ((string : Octets) → StringText text.now string

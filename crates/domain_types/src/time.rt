@@ -6,7 +6,8 @@ ghost use Rattle.domain_types.specs.Times.{is_leap_year, year_days, month_days, 
 ghost use Rattle.domain_base.specs.Scan.{IsNumber};
 ghost use Rattle.domain_types.specs.Times.{days_to_month, seconds_to, DateText, StampText};
 
-use crate::spell::{Part, number, part_of};
+use crate::spell::{Part, part_of};
+use domain_svcb::number;
 
 /// A date and a time of day.
 #[derive(Clone, Copy)]

@@ -1,15 +1,44 @@
 //! The tokens of an entry of a zone file, and their faults as data.
+ghost use Rattle.std.specs.Prelude.{◌≡◌, false};
+ghost use Rattle.domain_types.specs.Reading.{token_text, has_quote, has_inner_quote};
 
 use crate::field::{Field, Tail};
+use domain_svcb::ParameterFault;
 
 /// A token of a zone file: the octets between its separators, without the outer quotes. Escapes are
-/// still in it.
+/// still in it, and so are quotes after its first equals sign, as in `alpn="h2,h3"`.
 #[derive(Clone, Copy)]
 pub struct Token<'a> {
     /// The octets, without the outer quotes.
     pub octets: &'a [u8],
     /// Whether quotes were around it.
     pub is_quoted: bool,
+}
+
+/// Returns whether a quote is in octets that no backslash takes.
+#[tactic(auto, using(std::proofs::lemmas::Grind::common_steps, crate::proofs::QuoteLemmas::quote_steps))]
+fn has_quote(octets: &[u8]) -> bool
+    ensures { result ≡ has_quote false octets.now }
+{
+    let mut taken = false;
+    for octet in octets {
+        if taken {
+            taken = false;
+            continue;
+        }
+        if *octet == b'"' {
+            return true;
+        }
+        taken = *octet == b'\\';
+    }
+    false
+}
+
+/// Returns whether quotes are in a token and not around it, as after an equals sign.
+pub(crate) fn has_inner_quote(token: &Token<'_>) -> bool
+    ensures { result ≡ has_inner_quote (token_text token.now) }
+{
+    !token.is_quoted && has_quote(token.octets)
 }
 
 /// A fault of tokens that are read as data.
@@ -29,12 +58,14 @@ pub enum DataFaultKind {
     Missing,
     /// The token follows the data.
     Extra,
-    /// Quotes are around a field that has none.
+    /// Quotes are around a field that has none, or in a token that is no parameter of a service.
     Quoted,
     /// The token does not spell a field of this kind.
     NotField(Field),
     /// The tokens do not spell what follows the fields.
     NotTail(Tail),
+    /// The token adds no parameter, or the parameters do not go together.
+    NotParameter(ParameterFault),
     /// Data of the type have no text of their own here: write the generic form.
     NoText,
     /// The tokens after the mark `\#` are not a number and as many octets in Base 16.

@@ -1,5 +1,5 @@
 use Rattle.std.proofs.Common.{length, ◌≤◌}
-use Rattle.domain_types.proofs.SpellLemmas.{ReadsString}
+use Rattle.domain_svcb.proofs.StringLemmas.{ReadsString}
 use Rattle.domain_types.proofs.spell.read_string.Given as goal
 
 abbrev pub invariant-octets : goal.invariant-octets

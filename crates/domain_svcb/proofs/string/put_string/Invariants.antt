@@ -1,6 +1,6 @@
 use Rattle.std.proofs.Common.{List, ℕ, length, ◌≡◌, ◌++◌}
-use Rattle.domain_types.proofs.SpellLemmas.{ReadsString}
-use Rattle.domain_types.proofs.read.put_string.Given as goal
+use Rattle.domain_svcb.proofs.StringLemmas.{ReadsString}
+use Rattle.domain_svcb.proofs.string.put_string.Given as goal
 
 abbrev pub invariant-octets : goal.invariant-octets
 invariant-octets l = (string : List ℕ) × ReadsString l.text string l.rest × (l.out.items ≡ l.initial.out.items ++ string)

@@ -1,8 +1,8 @@
 use Rattle.std.proofs.Common.{◌≡◌, ℕ, [], ◌∷◌, ◌++◌, arith, refl, ap, ◌∙◌, Option, Some}
 use Rattle.std.proofs.lemmas.{Grind.common_steps, List.{take_rest, append_assoc}, Bool.Decides.nat_tests}
-use Rattle.domain_types.specs.Spelling.{string_octet}
-use Rattle.domain_types.proofs.SpellLemmas.{string_next, string_ended}
-use Rattle.domain_types.proofs.read.put_string.Goals as goal
+use Rattle.domain_svcb.specs.Strings.{string_octet}
+use Rattle.domain_svcb.proofs.StringLemmas.{string_next, string_ended}
+use Rattle.domain_svcb.proofs.string.put_string.Goals as goal
 
 pub octets-preserved : goal.octets-preserved
 octets-preserved c =

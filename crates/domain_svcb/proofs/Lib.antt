@@ -1,0 +1,11 @@
+pub mod NumberLemmas
+pub mod StringLemmas
+pub mod KeyLemmas
+pub mod TextLemmas
+pub mod ItemLemmas
+pub mod IdLemmas
+pub mod WireLemmas
+pub mod PlacedLemmas
+pub mod FaultLemmas
+pub mod ValueLemmas
+pub mod GatherLemmas

@@ -1,0 +1,5 @@
+pub mod Strings
+pub mod Keys
+pub mod Values
+pub mod Parameters
+pub mod Gathered
