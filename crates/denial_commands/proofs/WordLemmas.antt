@@ -1,9 +1,11 @@
 -- The words of a command.
-use Rattle.std.proofs.Common.{◌≡◌, ℕ, ◌+◌, ◌-◌, ◌<◌, ◌≤◌, Bool, true, false, List, [], ◌∷◌, ◌++◌, length, map, Some}
+use Rattle.std.proofs.Common.{◌≡◌, ℕ, ◌+◌, ◌-◌, ◌<◌, ◌≤◌, Bool, true, false, List, [], ◌∷◌, ◌++◌, length, map, Some, Result, drop, get_or, take}
 use Rattle.std.proofs.Common.{String, Global, arith, ap, refl, subst, string_bytes, codes, sym, ◌∙◌, append_assoc}
-use Rattle.std.proofs.lemmas.{List.length-map, Slice.Eq.bytes_eq-Decides}
+use Rattle.std.proofs.lemmas.{Grind.common_steps, List.length-map, Slice.Eq.bytes_eq-Decides}
 use Rattle.domain_names.specs.Name.{Tokens}
-use Rattle.denial_commands.specs.Command.{answer_options}
+use Rattle.lint_program.specs.declared.outcome.Outcome.{Outcome}
+use Rattle.denial_commands.specs.{Command.{answer_options, IsSubcommand}, Run.{RunsAs, RunsCommand, Setup}}
+use Rattle.denial_commands.specs.declared.{command.Subcommand.Subcommand, fault.CommandFault.CommandFault}
 use Rattle.denial_commands.specs.Source.{least_before, word_is, IsZoneAt, IsZoneFrom}
 
 pub zone_at : (words : List (String Global)) (least at : ℕ) → Some least ≡ least_before (map string_bytes words) → least ≤ at → at < length words - 1
@@ -18,3 +20,19 @@ pub three_more : (is_nsec3 : Bool) (old first second all : Tokens) → is_nsec3 
 three_more false old first second all is p q r = absurd (cc)
 three_more true old first second all is p q r =
     r ∙ ap (λ t. t ++ codes "--records" ∷ []) (q ∙ ap (λ t. t ++ codes "65535" ∷ []) p) ∙ simp append_assoc refl
+
+rest_of : (x : String Global) (xs : List (String Global)) → take (length (x ∷ xs) - 1) xs ≡ xs
+rest_of x xs = grind (arith, common_steps)
+
+-- the first word chooses the row
+pub runs_as : {W : Type 0} (words : List (String Global)) (word : String Global) (on : Setup W) (result : Result Outcome CommandFault)
+    (subcommand : Subcommand) → 1 ≤ length words → word ≡ get_or words 0 word → IsSubcommand (string_bytes word) subcommand
+    → RunsAs subcommand (string_bytes word) (map string_bytes (take (length words - 1) (drop 1 words))) on result
+    → RunsCommand (map string_bytes words) on result
+runs_as [] word on result subcommand some first named run = absurd (omega (arith, some))
+runs_as (x ∷ xs) word on result subcommand some first named run = (
+  subcommand,
+  subst (λ w. IsSubcommand (string_bytes w) subcommand) first named,
+  subst (λ ws. RunsAs subcommand (string_bytes x) (map string_bytes ws) on result) (rest_of x xs)
+  (subst (λ w. RunsAs subcommand (string_bytes w) (map string_bytes (take (length (x ∷ xs) - 1) xs)) on result) first run),
+)

@@ -17,10 +17,13 @@ use Rattle.denial_commands.specs.declared.fault.CommandFault.{CommandFault}
 use Rattle.denial_commands.specs.declared.fault.CommandFault.TheVariants as fault_of
 
 -- the command leaves out the records that a signer adds
+abbrev pub leaves_out_by : Token → Bool
+leaves_out_by word =
+    is_one_of word (codes "nsec") (codes "nsec3") || bytes_eq word (codes "lint")
+
 abbrev pub leaves_out : Tokens → Bool
 leaves_out [] = false
-leaves_out (word ∷ more) =
-    is_one_of word (codes "nsec") (codes "nsec3") || bytes_eq word (codes "lint")
+leaves_out (word ∷ more) = leaves_out_by word
 
 -- the arguments of `lint` name this apex
 abbrev pub AsksToLintAbout : Tokens → Name → Type 0

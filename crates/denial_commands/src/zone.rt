@@ -2,7 +2,7 @@
 ghost use Rattle.std.specs.Prelude.{◌≡◌, map, string_bytes, IfOk, IfErr};
 ghost use Rattle.denial_program.specs.Command.{AsksAbout};
 ghost use Rattle.judge_program.specs.Command.{AsksToJudgeAbout};
-ghost use Rattle.denial_commands.specs.{Command.answer_words, Zone.{leaves_out, AsksToLintAbout, HasNoApex, HasNoDeniedApex, HasNoJudgedApex}};
+ghost use Rattle.denial_commands.specs.{Command.answer_words, Zone.{leaves_out, leaves_out_by, AsksToLintAbout, HasNoApex, HasNoDeniedApex, HasNoJudgedApex}};
 ghost use Rattle.denial_commands.specs.Zone.{HasNoLintedApex, IsAbout, RunsOverZone};
 
 use crate::answer::answer_words;
@@ -81,17 +81,24 @@ fn apex_of_command(alloc: Global, words: &[String]) -> Result<ZoneName, CommandF
     }
 }
 
-/// Returns whether the command reads a zone without the records that a signer adds: `nsec`,
-/// `nsec3` and `lint` do. `check`, `judge` and `answer` read those.
+/// Returns whether the command of this name reads a zone without the records that a signer adds:
+/// `nsec`, `nsec3` and `lint` do. `check`, `judge` and `answer` read those.
+fn leaves_out_by(word: &str) -> bool
+    ensures { result ≡ leaves_out_by word.now }
+{
+    match word {
+        "nsec" | "nsec3" | "lint" => true,
+        _ => false,
+    }
+}
+
+/// Returns whether the command reads a zone without the records that a signer adds.
 fn leaves_out(words: &[String]) -> bool
     ensures { result ≡ leaves_out (map string_bytes words.now) }
 {
-    let [word, ..] = words else {
-        return false;
-    };
-    match word.as_str() {
-        "nsec" | "nsec3" | "lint" => true,
-        _ => false,
+    match words {
+        [word, ..] => leaves_out_by(word.as_str()),
+        [] => false,
     }
 }
 

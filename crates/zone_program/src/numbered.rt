@@ -53,7 +53,8 @@ fn next_record(
 fn put_gap(text: &mut String, count: usize, line: usize) -> Result<(), OutOfMemory>
     ensures { OnOk result (string_bytes text.new ≡ string_bytes text.old ++ gap count line) }
 {
-    for _ in count..line.saturating_sub(1) {
+    let missing = line.saturating_sub(1).saturating_sub(count);
+    for _ in 0..missing {
         text.push('\n')?;
     }
     Ok(())
