@@ -31,6 +31,30 @@ abbrev pub start_state : Name → State
 start_state origin =
     record { origin = origin; owner = None; default_ttl = None; last_ttl = None; last_class = 1 }
 
+-- what is known before the first entry of an included file: what the entries before $INCLUDE say, and
+-- the origin that it names
+abbrev pub included_state : State → Name → State
+included_state s origin =
+    record {
+      origin = origin;
+      owner = s.owner;
+      default_ttl = s.default_ttl;
+      last_ttl = s.last_ttl;
+      last_class = s.last_class;
+    }
+
+-- what is known after an included file that ends so: origin and owner are those before it. The
+-- default of $TTL, the last TTL and the last class are those of its end
+abbrev pub state_after_file : State → State → State
+state_after_file s end =
+    record {
+      origin = s.origin;
+      owner = s.owner;
+      default_ttl = end.default_ttl;
+      last_ttl = end.last_ttl;
+      last_class = end.last_class;
+    }
+
 -- a record
 pub record FileRecord : Type 0 where
   pub owner : Name

@@ -2,7 +2,8 @@
 ghost use Rattle.std.specs.Prelude.{◌≡◌, ◌≤◌, ◌+◌, drop, length, map, Some, None, IfOk, IfErr, OnErr, unwrap_or};
 ghost use Rattle.std.specs.Option.{option_or};
 ghost use Rattle.domain_types.specs.Reading.{token_text};
-ghost use Rattle.domain_zonefile.specs.Records.{start_state, counted_ttl, soa_minimum, ttl_of, default_after};
+ghost use Rattle.domain_zonefile.specs.Records.{included_state, start_state, state_after_file};
+ghost use Rattle.domain_zonefile.specs.Records.{counted_ttl, soa_minimum, ttl_of, default_after};
 ghost use Rattle.domain_zonefile.specs.Records.{owner_count, FirstName, FirstNameFault, HasOwner, OwnerFault, ReadsBody, FieldsFault, ReadsRecord, RecordFault};
 
 use crate::Token;
@@ -143,6 +144,41 @@ impl ZoneState {
             Some(owner) => Some(owner.as_parsed()),
             None => None,
         }
+    }
+
+    /// Returns what is known before the first entry of an included file with this origin. The rest
+    /// is as this file says (RFC 1035, section 5.1).
+    ///
+    /// # Errors
+    ///
+    /// `OutOfMemory` if there is no memory for the last owner.
+    pub fn included(&self, alloc: Global, origin: Name<SmallOctets>) -> Result<Self, OutOfMemory>
+        ensures { IfOk result (λ state. state ≡ included_state self.now origin) }
+    {
+        let owner = match self.owner() {
+            None => None,
+            Some(owner) => match Name::try_octets_from(alloc, owner) {
+                Ok(owner) => Some(owner),
+                Err(_) => return Err(OutOfMemory),
+            },
+        };
+        Ok(ZoneState {
+            origin,
+            owner,
+            default_ttl: self.default_ttl,
+            last_ttl: self.last_ttl,
+            last_class: self.last_class,
+        })
+    }
+
+    /// Goes on after an included file that ends so: origin and owner stay. The default TTL, the
+    /// last TTL and the last class are those of its end (RFC 2308, section 4).
+    pub fn go_on(&mut self, end: &ZoneState)
+        ensures { self.new ≡ state_after_file self.old end.now }
+    {
+        self.default_ttl = end.default_ttl;
+        self.last_ttl = end.last_ttl;
+        self.last_class = end.last_class;
     }
 
     /// Changes the origin.

@@ -3,7 +3,7 @@ ghost use Rattle.std.specs.Prelude.{◌≡◌, [], IfOk};
 ghost use Rattle.std.specs.Prelude.{map};
 ghost use Rattle.domain_types.specs.Reading.{token_text};
 ghost use Rattle.domain_zonefile.specs.Tokens.{piece_view, token_place};
-ghost use Rattle.domain_zonefile.specs.{Entries.items_from, Files.{item_of_line, IsItemOf, ReadsItem}, Places.{place_in, without_mark}, Records.start_state};
+ghost use Rattle.domain_zonefile.specs.{Entries.items_from, Files.{item_of_line, IsItemOf, ReadsItem}, Places.{place_in, without_mark}, Records.{start_state, state_after_file}};
 
 use crate::{
     EntryFault, EntryReader, Found, Line, Place, RecordFields, SyntaxFault, Token, ZoneState,
@@ -93,10 +93,20 @@ impl<'a> ZoneReader<'a> {
         ensures state { IfOk result (λ r. r.state ≡ start_state origin.now) }
         ensures left { IfOk result (λ r. r.left ≡ items_from (without_mark file.now) 0) }
     {
-        Ok(ZoneReader {
+        let state = ZoneState::new(alloc, origin)?;
+        Ok(ZoneReader::with_state(alloc, file, state))
+    }
+
+    /// Returns a reader of a file before which this is known.
+    pub fn with_state(alloc: Global, file: &'a [u8], state: ZoneState) -> Self
+        ensures file { result.file ≡ without_mark file.now }
+        ensures state { result.state ≡ state }
+        ensures left { result.left ≡ items_from (without_mark file.now) 0 }
+    {
+        ZoneReader {
             entries: EntryReader::new(alloc, file),
-            state: ZoneState::new(alloc, origin)?,
-        })
+            state,
+        }
     }
 
     /// Reads the next record, fault or other entry. `$ORIGIN` and `$TTL` are followed, and passed
@@ -153,9 +163,22 @@ impl<'a> ZoneReader<'a> {
         &self.state
     }
 
+    /// Goes on after an included file that ends so: origin and owner stay. The default TTL, the
+    /// last TTL and the last class are those of its end (RFC 2308, section 4).
+    pub fn go_on(&mut self, end: &ZoneState)
+        ensures state { self.new.state ≡ state_after_file self.old.state end.now }
+        ensures left { self.new.left ≡ self.old.left }
+        ensures tokens { self.new.tokens ≡ self.old.tokens }
+        ensures file { self.new.file ≡ self.old.file }
+    {
+        self.state.go_on(end);
+    }
+
     /// Returns the tokens of the entry that was read last. After a fault of the octets there are
     /// none.
-    pub fn tokens(&self) -> &[Token<'a>] {
+    pub fn tokens(&self) -> &[Token<'a>]
+        ensures { map token_text result.now ≡ map piece_view self.now.tokens }
+    {
         self.entries.tokens()
     }
 }

@@ -1,6 +1,7 @@
 //! Runs the program over any reader and any writer.
 ghost use Rattle.std.specs.Prelude.{◌≡◌, ◌⊎◌, ◌↔◌, IsTrue, codes, IfOk, IfErr, IfSome, OnOk, MatchResult, map, string_bytes};
 ghost use Rattle.std.specs.Io.KnownBytes.{Appends};
+ghost use Rattle.std.specs.IoError.{error_kind};
 ghost use Rattle.domain_octets.specs.Octets.{Octets};
 ghost use Rattle.domain_names.specs.Text.{NameText};
 ghost use Rattle.zone_program.specs.Run.{AsksForZone, IsNoApex, IsNoCommandFor, IsBeforeWriting, LinesOfRun, NoRun};
@@ -15,7 +16,9 @@ use std::io::{ErrorKind, Read, Write};
 
 /// Returns the fault of a call of the system, or that memory ran out.
 pub fn fault_of(error: &io::Error, fault: ZoneFault) -> ZoneFault
-    ensures { (result ≡ fault) ⊎ (result ≡ ZoneFault.OutOfMemory) }
+    ensures cases { (result ≡ fault) ⊎ (result ≡ ZoneFault.OutOfMemory) }
+    ensures memory { (result ≡ ZoneFault.OutOfMemory)
+        ↔ ((error_kind error.now ≡ ErrorKind.OutOfMemory) ⊎ (fault ≡ ZoneFault.OutOfMemory)) }
 {
     if error.kind() == ErrorKind::OutOfMemory {
         ZoneFault::OutOfMemory

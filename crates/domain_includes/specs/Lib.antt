@@ -1,0 +1,4 @@
+pub mod Paths
+pub mod Files
+pub mod FileFaults
+pub mod Steps

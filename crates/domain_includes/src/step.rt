@@ -1,0 +1,94 @@
+//! The next item of one file.
+ghost use Rattle.std.specs.Prelude.{◌≡◌, ◌≤◌, length, Some, IfOk, IfErr, OnOk};
+ghost use Rattle.domain_includes.specs.Steps.{IsFaultOfItem, IsOwned, IsFileStep, IsStepFault, TakesRecord};
+
+use crate::fault::{FileFaultKind, FilesFault, fault_at};
+use crate::files::RecordSink;
+use domain_base::Name;
+use domain_octets::{OutOfMemory, SmallOctets};
+use domain_types::DataFaultKind;
+use domain_zonefile::{EntryFault, EntryFaultKind, RecordFields, ZoneItem, ZoneReader};
+use std::alloc::Global;
+
+/// What the next item of a file was.
+#[derive(Drop)]
+pub(crate) enum Step {
+    /// The file has no more.
+    End,
+    /// A record. It was passed to the sink.
+    Record,
+    /// `$INCLUDE`, with the origin of the file.
+    Include(Name<SmallOctets>),
+}
+
+/// Returns the fault of an entry.
+fn fault_of_entry(reader: &mut ZoneReader<'_>, fault: EntryFault) -> FilesFault
+    ensures fault { IsFaultOfItem reader.old.file (ZoneItem.Refused fault) reader.old.tokens
+        result }
+    ensures file { reader.new.file ≡ reader.old.file }
+{
+    match fault.kind {
+        EntryFaultKind::OutOfMemory => FilesFault::OutOfMemory,
+        EntryFaultKind::Data(DataFaultKind::OutOfMemory) => FilesFault::OutOfMemory,
+        kind => fault_at(
+            reader.place_of_token(fault.token),
+            FileFaultKind::Entry(kind),
+        ),
+    }
+}
+
+/// Passes the record that was read last to the sink.
+fn take_record<S: RecordSink>(
+    reader: &ZoneReader<'_>,
+    fields: RecordFields,
+    octets: &[u8],
+    sink: &mut S,
+) -> Result<(), OutOfMemory>
+    requires fits { length octets.now ≤ 65535 }
+    requires owned { IsOwned reader.now.state }
+    ensures { OnOk result (TakesRecord S.takes reader.now.state fields octets.now sink.old
+        sink.new) }
+{
+    match reader.state().owner() {
+        Some(owner) => sink.take(&owner, fields, octets),
+        None => unreachable!(),
+    }
+}
+
+/// Reads the next item of a file, and passes a record to the sink.
+pub(crate) fn next_step<S: RecordSink>(
+    alloc: Global,
+    reader: &mut ZoneReader<'_>,
+    data: &mut Vec<u8>,
+    sink: &mut S,
+) -> Result<Step, FilesFault>
+    ensures ok { IfOk result (λ step. IsFileStep S.takes reader.old.state reader.old.left sink.old
+        step reader.new.state reader.new.tokens reader.new.left sink.new) }
+    ensures err { IfErr result (IsStepFault reader.old.file reader.old.state reader.old.left) }
+    ensures file { reader.new.file ≡ reader.old.file }
+{
+    data.clear();
+    let item = match reader.next_item(alloc, data) {
+        Ok(Some(item)) => item,
+        Ok(None) => return Ok(Step::End),
+        Err(OutOfMemory) => return Err(FilesFault::OutOfMemory),
+    };
+    let (place, kind) = match item {
+        ZoneItem::Record(fields) => {
+            return match take_record(reader, fields, data.as_slice(), sink) {
+                Ok(()) => Ok(Step::Record),
+                Err(OutOfMemory) => Err(FilesFault::OutOfMemory),
+            };
+        }
+        ZoneItem::Include(origin) => return Ok(Step::Include(origin)),
+        ZoneItem::Refused(fault) => return Err(fault_of_entry(reader, fault)),
+        ZoneItem::Misspelled(fault) => {
+            (
+                reader.place_of(fault.at),
+                FileFaultKind::Syntax(fault.error),
+            )
+        }
+        ZoneItem::Generate => (reader.place_of_token(0), FileFaultKind::Generate),
+    };
+    Err(fault_at(place, kind))
+}
