@@ -11,7 +11,8 @@ use Rattle.domain_zone.proofs.{PairLemmas.{ascending, irreflexive}, NameLemmas.{
 use Rattle.domain_zone.proofs.WalkLemmas.{any_in, ascending_filter, in_any, after_or, all_both, any_map, filter_none, weaker}
 use Rattle.domain_nsec3.{specs.{Steps.IsListOf, Chain.{ChainConfig, HashAnswer, hash_of, HasCollision, is_chain_name}}, proofs.ChainLemmas.hash_same}
 use Rattle.domain_nsec3.proofs.OwnerLemmas.{sorted}
-use Rattle.domain_alike.specs.Alike.{pair_of, AreAlike, AreHashed, IsAlike, IsFirstAlike, IsFirstPair, IsFirstChainRefusal, Pair, first_before, first_with, is_hash}
+use Rattle.domain_alike.specs.Alike.{pair_of, AreAlike, AreHashed, IsAlike, IsFirstAlike, IsFirstPair}
+use Rattle.domain_alike.specs.Alike.{IsFirstChainRefusal, Pair, first_before, first_with, is_hash}
 use Rattle.domain_alike.specs.{Alike.{pair_with, ArePairs, HasHash}, declared.alike.Alike.Alike}
 
 -- ---- hashes

@@ -10,9 +10,9 @@ use Rattle.domain_zonefile.specs.declared.{place.Place.Place, zone_reader.ZoneIt
 use Rattle.domain_zonefile.specs.declared.zone_reader.ZoneItem.TheVariants as zone_items
 use Rattle.domain_zonefile.proofs.FileLemmas.{reads_less}
 use Rattle.domain_includes.specs.Paths.{included_name, included_path}
-use Rattle.domain_includes.specs.Files.{Contents, FileRecords, IsNextInclude, IsNextRecord, PassesRecords, TakesAll}
+use Rattle.domain_includes.specs.Files.{Contents, FileRecords, IsNextInclude, IsNextRecordOfFiles, PassesRecords, TakesAll}
 use Rattle.domain_includes.specs.Files.{no_record, one_record, included, took_none, took_one}
-use Rattle.domain_includes.specs.FileFaults.{FirstFaultOfFiles, IsFilesFault, IsNextFault, IsNotIncluded, path_octets}
+use Rattle.domain_includes.specs.FileFaults.{FirstFaultOfFiles, IsFilesFault, IsNextFaultOfFiles, IsNotIncluded, path_octets}
 use Rattle.domain_includes.specs.FileFaults.{at_once, not_included, after_record, in_included, after_included}
 use Rattle.domain_includes.specs.Steps.{IsInFile, IsFileStep, IsStepFault, IsUnopened, IsUnreadable}
 use Rattle.domain_includes.specs.declared.{step.Step.{Step, TheVariants.{End, Record, Include}}}
@@ -50,7 +50,7 @@ passed_none gives takes depth path file s left old =
 pub passed_record : (gives : Contents) {S : Type 0} (takes : S → FileRecord → S
     → Type 0) (depth : ℕ) (path file : Octets) (s : State) (left : List Item) (old : S)
     (now : State) (rest : List Item) (sink : S) (r : FileRecord) (after : State) (others : List Item) (new : S)
-    → Passed gives takes depth path file s left old now rest sink → IsNextRecord now rest r after others → takes sink r new
+    → Passed gives takes depth path file s left old now rest sink → IsNextRecordOfFiles now rest r after others → takes sink r new
     → Passed gives takes depth path file s left old after others new
 passed_record gives takes depth path file s left old now rest sink r after others new p next took = record {
   before = p.before ++ (r ∷ []);

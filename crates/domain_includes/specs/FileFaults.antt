@@ -6,23 +6,23 @@ use Rattle.domain_zonefile.specs.{Entries.{Piece, Item, items_from}, Files.Reads
 use Rattle.domain_zonefile.specs.{Records.{FileRecord, State, start_state, state_after_file}, Tokens.token_place}
 use Rattle.domain_zonefile.specs.declared.{place.Place.Place, zone_reader.ZoneItem.ZoneItem}
 use Rattle.domain_zonefile.specs.declared.zone_reader.ZoneItem.TheVariants as zone_items
-use Rattle.domain_includes.specs.Files.{Contents, FileRecords, IsNextInclude, IsNextRecord, max_depth}
+use Rattle.domain_includes.specs.Files.{Contents, FileRecords, IsNextInclude, IsNextRecordOfFiles, max_depth}
 use Rattle.domain_includes.specs.declared.fault.{FileFaultKind.FileFaultKind, FileFault.FileFault, FilesFault.{FilesFault, TheVariants.{File, OutOfMemory}}}
 use Rattle.domain_includes.specs.declared.fault.FileFaultKind.TheVariants.{Syntax, Entry, Unreadable, TooDeep, Generate}
 
 -- the fault of an item of a file, with its place
-abbrev pub ItemFault : Octets → ZoneItem → List Piece → Place → FileFaultKind → Type 0
-ItemFault file (zone_items.Misspelled fault) pieces place kind =
+abbrev pub FilesItemFault : Octets → ZoneItem → List Piece → Place → FileFaultKind → Type 0
+FilesItemFault file (zone_items.Misspelled fault) pieces place kind =
     (place ≡ place_in file fault.at) × (kind ≡ Syntax fault.error)
-ItemFault file (zone_items.Refused fault) pieces place kind =
+FilesItemFault file (zone_items.Refused fault) pieces place kind =
     (place ≡ place_in file (token_place pieces fault.token)) × (kind ≡ Entry fault.kind)
-ItemFault file zone_items.Generate pieces place kind =
+FilesItemFault file zone_items.Generate pieces place kind =
     (place ≡ place_in file (token_place pieces 0)) × (kind ≡ Generate)
-ItemFault file (zone_items.Include origin) pieces place kind = ⊥
-ItemFault file (zone_items.Record fields) pieces place kind = ⊥
+FilesItemFault file (zone_items.Include origin) pieces place kind = ⊥
+FilesItemFault file (zone_items.Record fields) pieces place kind = ⊥
 
 -- the next item of a file has this fault
-pub record IsNextFault (file : Octets) (s : State) (left : List Item) (place : Place)
+pub record IsNextFaultOfFiles (file : Octets) (s : State) (left : List Item) (place : Place)
     (kind : FileFaultKind) : Type 0 where
   pub item : ZoneItem
   pub after : State
@@ -30,7 +30,7 @@ pub record IsNextFault (file : Octets) (s : State) (left : List Item) (place : P
   pub rest : List Item
   pub octets : Octets
   pub reads : ReadsItem s left [] (Some item) after pieces rest octets
-  pub is : ItemFault file item pieces place kind
+  pub is : FilesItemFault file item pieces place kind
 
 -- why the file at a path is not included: it cannot be read, or too many files are included within
 -- each other
@@ -45,14 +45,14 @@ IsNotIncluded gives depth inner kind = ⊥
 pub data FirstFaultOfFiles (gives : Contents) (place : Place) (kind : FileFaultKind)
     : ℕ → Octets → Octets → State → List Item → Option Octets → Type 0 where
   at_once : (depth : ℕ) (path file : Octets) (s : State) (left : List Item)
-      → IsNextFault file s left place kind → FirstFaultOfFiles gives place kind depth path file s left None
+      → IsNextFaultOfFiles file s left place kind → FirstFaultOfFiles gives place kind depth path file s left None
   not_included : (depth : ℕ) (path file : Octets) (s : State) (left : List Item) (inner : Octets)
       (start : State) (pieces : List Piece) (after : State) (rest : List Item)
       → IsNextInclude path s left inner start pieces after rest
       → IsNotIncluded gives depth inner kind → place ≡ place_in file (token_place pieces 1)
       → FirstFaultOfFiles gives place kind depth path file s left None
   after_record : (depth : ℕ) (path file : Octets) (s : State) (left : List Item) (r : FileRecord)
-      (after : State) (rest : List Item) (which : Option Octets) → IsNextRecord s left r after rest
+      (after : State) (rest : List Item) (which : Option Octets) → IsNextRecordOfFiles s left r after rest
       → FirstFaultOfFiles gives place kind depth path file after rest which
       → FirstFaultOfFiles gives place kind depth path file s left which
   in_included : (depth : ℕ) (path file : Octets) (s : State) (left : List Item) (inner : Octets)

@@ -14,7 +14,7 @@ abbrev pub Contents : Type 1
 Contents = Octets → Option Octets → Type 0
 
 -- the next item is this record
-pub record IsNextRecord (s : State) (left : List Item) (r : FileRecord) (after : State)
+pub record IsNextRecordOfFiles (s : State) (left : List Item) (r : FileRecord) (after : State)
     (rest : List Item) : Type 0 where
   pub fields : RecordFields
   pub owner : Name
@@ -43,7 +43,7 @@ pub data FileRecords (gives : Contents) : ℕ → Octets → State → List Item
       → FileRecords gives depth path s left [] end
   one_record : (depth : ℕ) (path : Octets) (s : State) (left : List Item) (r : FileRecord)
       (after : State) (rest : List Item) (more : List FileRecord) (end : State)
-      → IsNextRecord s left r after rest → FileRecords gives depth path after rest more end
+      → IsNextRecordOfFiles s left r after rest → FileRecords gives depth path after rest more end
       → FileRecords gives depth path s left (r ∷ more) end
   included : (depth : ℕ) (path : Octets) (s : State) (left : List Item) (inner : Octets)
       (start : State) (pieces : List Piece) (after : State) (rest : List Item) (file : Octets)

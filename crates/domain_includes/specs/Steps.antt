@@ -5,8 +5,8 @@ use Rattle.domain_names.specs.Name.{Name}
 use Rattle.domain_zonefile.specs.{Entries.{Piece, Item}, Files.ReadsItem, Places.place_in, Records.{FileRecord, State, record_with}, Tokens.token_place}
 use Rattle.domain_zonefile.specs.declared.{state.RecordFields.RecordFields, zone_reader.ZoneItem.ZoneItem}
 use Rattle.domain_zonefile.specs.declared.zone_reader.ZoneItem.TheVariants as zone_items
-use Rattle.domain_includes.specs.Files.{Contents, IsNextRecord}
-use Rattle.domain_includes.specs.FileFaults.{ItemFault, IsNextFault, path_octets}
+use Rattle.domain_includes.specs.Files.{Contents, IsNextRecordOfFiles}
+use Rattle.domain_includes.specs.FileFaults.{FilesItemFault, IsNextFaultOfFiles, path_octets}
 use Rattle.domain_includes.specs.declared.{step.Step.{Step, TheVariants.{End, Record, Include}}}
 use Rattle.domain_includes.specs.declared.fault.{FileFaultKind.{FileFaultKind, TheVariants.Unreadable}, FileFault.FileFault}
 use Rattle.domain_includes.specs.declared.fault.FilesFault.{FilesFault, TheVariants.{File, OutOfMemory}}
@@ -27,7 +27,7 @@ abbrev pub IsFileStep : {S : Type 0} → (S → FileRecord → S → Type 0) →
 IsFileStep takes s left old End after pieces rest new =
     ReadsItem s left [] None after pieces rest [] × (new ≡ old)
 IsFileStep takes s left old Record after pieces rest new =
-    (r : FileRecord) × IsNextRecord s left r after rest × takes old r new
+    (r : FileRecord) × IsNextRecordOfFiles s left r after rest × takes old r new
 IsFileStep takes s left old (Include origin) after pieces rest new =
     (octets : Octets)
     × ReadsItem s left [] (Some (zone_items.Include origin)) after pieces rest octets × (new ≡ old)
@@ -35,13 +35,13 @@ IsFileStep takes s left old (Include origin) after pieces rest new =
 -- the fault of an item, or lack of memory
 abbrev pub IsFaultOfItem : Octets → ZoneItem → List Piece → FilesFault → Type 0
 IsFaultOfItem file item pieces (File fault) =
-    ItemFault file item pieces fault.place fault.kind × (path_octets fault.path ≡ None)
+    FilesItemFault file item pieces fault.place fault.kind × (path_octets fault.path ≡ None)
 IsFaultOfItem file item pieces OutOfMemory = Unit {0}
 
 -- why the next item was not passed on: its fault, or lack of memory
 abbrev pub IsStepFault : Octets → State → List Item → FilesFault → Type 0
 IsStepFault file s left (File fault) =
-    IsNextFault file s left fault.place fault.kind × (path_octets fault.path ≡ None)
+    IsNextFaultOfFiles file s left fault.place fault.kind × (path_octets fault.path ≡ None)
 IsStepFault file s left OutOfMemory = Unit {0}
 
 -- the file at a path cannot be read

@@ -12,7 +12,8 @@ use Rattle.domain_rdata.{proofs.ScanLemmas.{AreOf, are_of}, specs.declared.zone_
 use Rattle.domain_rdata.{proofs.ScanLemmas.are_wire, specs.Scan.{AreData, CopiedFault}}
 use Rattle.domain_message.specs.Data.{compressed_parts, has_rest, DataAt, PartAt, PartsAt, PartFault, PartsFault, MayEnd, WholeAt, PlacedAt, OctetsAt}
 use Rattle.domain_message.specs.Data.{text_count}
-use Rattle.domain_message.specs.Record.{numbers, IsSameRecord, HeaderAt, HeaderFault, in_owner, cut_numbers, IsDataAt, IsOfMessage, RecordAt, OctetsRefusal, AreLegal}
+use Rattle.domain_message.specs.Record.{numbers, IsSameRecord, HeaderAt, HeaderFault, in_owner, cut_numbers, IsDataAt}
+use Rattle.domain_message.specs.Record.{IsOfMessage, RecordAt, OctetsRefusal, AreLegal}
 use Rattle.domain_message.specs.Record.{RefusesRecordData, RefusesRecord, cut, in_part, other_end, too_long, in_header, in_data, in_octets}
 use Rattle.domain_message.specs.declared.error.MessageError.TheVariants.{IllegalData, ShortBuf, OutOfMemory}
 use Rattle.domain_message.specs.declared.{error.MessageError.MessageError, parts.Part.Part, name.NameFault.NameFault}

@@ -296,8 +296,8 @@ impl<O: FromBuilder, N: ToName> ZoneRecordData<O, N> {
     /// - `Custom("record data too long")` if and only if there are more than 65,535 octets.
     /// - `Custom("illegal data")` if and only if the octets, at most 65,535, are not data of the
     ///   type.
-    /// - `ShortBuf` or `OutOfMemory` if they are data of the type, and what is copied has no room or
-    ///   no memory.
+    /// - `ShortBuf` or `OutOfMemory` if they are data of the type, and what is copied has no room
+    ///   or no memory.
     pub fn copy_from(alloc: Global, rtype: Rtype, octets: &[u8]) -> Result<Self, ScanError>
     where
         O: Drop,

@@ -2,7 +2,8 @@ use Rattle.std.proofs.{Common.{Ok, ◌≡◌, ◌&&◌, ◌++◌, ap, inl, inr, 
 use Rattle.domain_octets.proofs.StdLemmas.{if_err_of}
 use Rattle.domain_nsec3.specs.{Steps.IsListOf, Chain.{hash_name, is_chain_name}, View.config_of}
 use Rattle.domain_borrowed.specs.Data.{zone_of_raw}
-use Rattle.domain_alike.{specs.Alike.{pair_of, IsFirstChainRefusal, IsRefusedBy, pair_with, ArePairs}, proofs.AlikeLemmas.{alike_are, all_hashed, first_refusal, pairs_more}}
+use Rattle.domain_alike.specs.Alike.{pair_of, IsFirstChainRefusal, IsRefusedBy, pair_with, ArePairs}
+use Rattle.domain_alike.proofs.AlikeLemmas.{alike_are, all_hashed, first_refusal, pairs_more}
 use Rattle.domain_alike.proofs.alike.alike_names.{Given.Over, Goals.{After-deref-name-items, in-Some+in_ok-later+in_ok-push, in_default}}
 use Rattle.domain_alike.proofs.alike.alike_names.Goals as goal
 
