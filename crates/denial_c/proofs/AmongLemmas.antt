@@ -205,7 +205,8 @@ hashing_faulty mode class octets sorted a config p by sha1 OutOfMemory h = absur
 abbrev pub IsHashError : Nsec3HashError → Type 0
 IsHashError e = (e ≡ hash_error.OutOfMemory) ⊎ ((n : ℕ) × (e ≡ hash_error.Hasher n))
 
--- what a check returns for a question that was asked, and the fault of octets that ask none
+-- ---- what a check returns for a question that was asked
+
 module _ {source : Source} {apex name : List ℕ} where
   both_spelled : {q : HashedQuestion} → AreAsked source apex name q → IsSpelled apex × IsSpelled name
   both_spelled {q = q} asked = ((q.apex, asked.apex_is), (q.name, asked.name_is))
@@ -216,25 +217,28 @@ module _ {source : Source} {apex name : List ℕ} where
   verdict_returned asked t (Err e) (inl full) tells = rw full (both_spelled asked)
   verdict_returned {q = q} asked t (Err e) (inr r) tells = rw r.1 (record { q = q; asked = asked; holds = (r.0, rw r.1 at tells) })
 
-  pub verdict_refused : (t : ℕ) (e : Fault) → IsNsec3Fault source apex name e → IsNsec3Result source apex name t (Err e)
-  verdict_refused t fault.Hasher why = absurd why
-  verdict_refused t _ why = why
-
   pub answer_returned : {q : HashedQuestion} (asked : AreAsked source apex name q) (t limit : ℕ) (r : Result Answer Nsec3HashError)
       → IfErr r IsHashError → IsHashedJudged (sha1_records q) q.name t limit r → IsNsec3Answer source apex name t limit (told_or_fault r)
   answer_returned {q = q} asked t limit (Ok told) errors tells = record { q = q; asked = asked; holds = tells }
   answer_returned asked t limit (Err e) (inl full) tells = rw full (both_spelled asked)
   answer_returned {q = q} asked t limit (Err e) (inr r) tells = rw r.1 (record { q = q; asked = asked; holds = (r.0, rw r.1 at tells) })
 
-  pub answer_refused : (t limit : ℕ) (e : Fault) → IsNsec3Fault source apex name e → IsNsec3Answer source apex name t limit (Err e)
-  answer_refused t limit fault.Hasher why = absurd why
-  answer_refused t limit _ why = why
-
   pub expansion_returned : {q : HashedQuestion} (asked : AreAsked source apex name q) (n limit : ℕ) (r : Result Answer Nsec3HashError)
       → IfErr r IsHashError → IsExpansionJudged (sha1_records q) q.name n limit r → IsExpansionAnswer source apex name n limit (told_or_fault r)
   expansion_returned {q = q} asked n limit (Ok told) errors tells = record { q = q; asked = asked; holds = tells }
   expansion_returned asked n limit (Err e) (inl full) tells = rw full (both_spelled asked)
   expansion_returned {q = q} asked n limit (Err e) (inr r) tells = rw r.1 (record { q = q; asked = asked; holds = (r.0, rw r.1 at tells) })
+
+-- ---- the fault of octets that ask no question
+
+module _ (source : Source) (apex name : List ℕ) where
+  pub verdict_refused : (t : ℕ) (e : Fault) → IsNsec3Fault source apex name e → IsNsec3Result source apex name t (Err e)
+  verdict_refused t fault.Hasher why = absurd why
+  verdict_refused t _ why = why
+
+  pub answer_refused : (t limit : ℕ) (e : Fault) → IsNsec3Fault source apex name e → IsNsec3Answer source apex name t limit (Err e)
+  answer_refused t limit fault.Hasher why = absurd why
+  answer_refused t limit _ why = why
 
   pub expansion_refused : (n limit : ℕ) (e : Fault) → IsNsec3Fault source apex name e → IsExpansionAnswer source apex name n limit (Err e)
   expansion_refused n limit fault.Hasher why = absurd why

@@ -140,7 +140,7 @@ fn faults(rt: HostRuntime) -> Result<(), Fail> {
             (b"\n$INCLUDE a/1\n", "a/1:2:10: cannot read a/2"),
             (b"$INCLUDE /b/1 . ; x", "/b/1:1:3: bracket is never closed"),
             (b"$INCLUDE c", "x.example 1 1 1 c0000201\nd:2:3: not a type"),
-            (b"$INCLUDE", "1:9: an argument is missing"),
+            (b"$INCLUDE", "1:1: an argument is missing"),
             (
                 b"$INCLUDE e",
                 "e:1:10: more than 10 files within each other",
