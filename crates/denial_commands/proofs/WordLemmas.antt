@@ -34,5 +34,5 @@ runs_as (x ∷ xs) word on result subcommand some first named run = (
   subcommand,
   subst (λ w. IsSubcommand (string_bytes w) subcommand) first named,
   subst (λ ws. RunsAs subcommand (string_bytes x) (map string_bytes ws) on result) (rest_of x xs)
-  (subst (λ w. RunsAs subcommand (string_bytes w) (map string_bytes (take (length (x ∷ xs) - 1) xs)) on result) first run),
+      (subst (λ w. RunsAs subcommand (string_bytes w) (map string_bytes (take (length (x ∷ xs) - 1) xs)) on result) first run),
 )

@@ -8,13 +8,17 @@ returns-in-Ok g c = λ flags. rw (c.as_slice.ensures.value, c.in-Ok.ensures) at 
 -- memory ran out before anything was read or written
 pub returns-in-Err : goal.returns-in-Err
 returns-in-Err g c =
-    λ flags. (OutOfMemory, refl, record {
-      run = record {
-        ok = tt;
-        reads = record { line = λ n is. absurd (let s = is in cc); end = λ after. absurd after };
-        records = λ of. absurd of;
-        write = λ is. absurd (let s = is in cc);
-      };
-      usage = tt;
-      untouched = λ before. absurd before;
-    })
+    λ flags. (
+      OutOfMemory,
+      refl,
+      record {
+        run = record {
+          ok = tt;
+          reads = record { line = λ n is. absurd (let s = is in cc); end = λ after. absurd after };
+          records = λ of. absurd of;
+          write = λ is. absurd (let s = is in cc);
+        };
+        usage = tt;
+        untouched = λ before. absurd before;
+      },
+    )
