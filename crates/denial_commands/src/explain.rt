@@ -46,8 +46,7 @@ impl<'a> Explanation<'a> {
         if self.words.len() < 4 {
             return writeln!(
                 f,
-                "denial: nsec3 takes three arguments, APEX ITERATIONS SALT, and then optout or \
-                 nothing"
+                "denial: nsec3 takes APEX ITERATIONS SALT, and then optout or nothing"
             );
         }
         self.fmt_parameters(f)?;
