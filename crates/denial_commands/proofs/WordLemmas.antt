@@ -1,10 +1,10 @@
 -- The words of a command.
 use Rattle.std.proofs.Common.{◌≡◌, ℕ, ◌+◌, ◌-◌, ◌<◌, ◌≤◌, Bool, true, false, List, [], ◌∷◌, ◌++◌, length, map, Some, Result, drop, get_or, take}
-use Rattle.std.proofs.Common.{String, Global, arith, ap, refl, subst, string_bytes, codes, sym, ◌∙◌, append_assoc}
+use Rattle.std.proofs.Common.{IfErr, Ok, Err, String, Global, arith, ap, refl, subst, string_bytes, codes, sym, ◌∙◌, append_assoc}
 use Rattle.std.proofs.lemmas.{Grind.common_steps, List.length-map, Slice.Eq.bytes_eq-Decides}
 use Rattle.domain_names.specs.Name.{Tokens}
 use Rattle.lint_program.specs.declared.outcome.Outcome.{Outcome}
-use Rattle.denial_commands.specs.{Command.{answer_options, IsSubcommand}, Run.{RunsAs, RunsCommand, Setup}}
+use Rattle.denial_commands.specs.{Command.{answer_options, IsSubcommand}, Run.{RunsAs, RunsCommand, Setup}, Zone.{HasNoApex, HasNoApexAs}}
 use Rattle.denial_commands.specs.declared.{command.Subcommand.Subcommand, fault.CommandFault.CommandFault}
 use Rattle.denial_commands.specs.Source.{least_before, word_is, IsZoneAt, IsZoneFrom}
 
@@ -35,4 +35,18 @@ runs_as (x ∷ xs) word on result subcommand some first named run = (
   subst (λ w. IsSubcommand (string_bytes w) subcommand) first named,
   subst (λ ws. RunsAs subcommand (string_bytes x) (map string_bytes ws) on result) (rest_of x xs)
       (subst (λ w. RunsAs subcommand (string_bytes w) (map string_bytes (take (length (x ∷ xs) - 1) xs)) on result) first run),
+)
+
+-- the words behind the first name no apex
+pub none_as : {X : Type 0} (words : List (String Global)) (word : String Global) (result : Result X CommandFault) (subcommand : Subcommand)
+    → 1 ≤ length words → word ≡ get_or words 0 word → IsSubcommand (string_bytes word) subcommand
+    → IfErr result (HasNoApexAs subcommand (string_bytes word) (map string_bytes (take (length words - 1) (drop 1 words))))
+    → IfErr result (HasNoApex (map string_bytes words))
+none_as [] word result subcommand some first named none = absurd (omega (arith, some))
+none_as (x ∷ xs) word (Ok found) subcommand some first named none = tt
+none_as (x ∷ xs) word (Err fault) subcommand some first named none = (
+  subcommand,
+  subst (λ w. IsSubcommand (string_bytes w) subcommand) first named,
+  subst (λ ws. HasNoApexAs subcommand (string_bytes x) (map string_bytes ws) fault) (rest_of x xs)
+      (subst (λ w. HasNoApexAs subcommand (string_bytes w) (map string_bytes (take (length (x ∷ xs) - 1) xs)) fault) first none),
 )
