@@ -272,8 +272,8 @@ static inline const char *denial_text(uint32_t number)
  * exist, the wildcard below its closest encloser is looked up in the same way.
  *
  * Allocates memory for the NSEC records by malloc and realloc, and frees it by free before it returns. Without
- * memory, DENIAL_OUT_OF_MEMORY may replace another result. Do not call it from a signal handler, nor in the
- * forked child of a process with threads.
+ * memory, DENIAL_OUT_OF_MEMORY may replace any result but DENIAL_BAD_APEX and DENIAL_BAD_NAME. Do not call it
+ * from a signal handler, nor in the forked child of a process with threads.
  */
 uint32_t denial_judge_nsec(const uint8_t *apex, size_t apex_length,
                            const uint8_t *name, size_t name_length,
