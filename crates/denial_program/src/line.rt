@@ -64,6 +64,7 @@ fn scan_record<'a, S: Scanner<Name = ZoneName, Octets = ZoneOctets>>(
 }
 
 /// Returns the content of a line, with the record in the arena. Pass the line without its end.
+#[inline(always)]
 pub fn read_line<'a>(
     alloc: Global,
     store: &mut Store<'a>,

@@ -78,6 +78,7 @@ fn append_line<R: BufRead>(input: &mut R, line: &mut Vec<u8>) -> io::Result<usiz
 /// # Errors
 ///
 /// `Read` if the input could not be read, and `OutOfMemory` if there is no memory.
+#[inline(always)]
 pub fn next_line<'a, R: BufRead>(
     alloc: Global,
     store: &mut Store<'a>,
