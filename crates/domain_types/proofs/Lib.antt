@@ -12,3 +12,4 @@ pub mod TimeLemmas
 pub mod AddressLemmas
 pub mod ParametersLemmas
 pub mod QuoteLemmas
+pub mod DotLemmas

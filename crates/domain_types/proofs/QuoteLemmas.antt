@@ -1,6 +1,7 @@
 -- Quotes in tokens.
-use Rattle.std.proofs.Common.{◌≡◌, ℕ, ◌+◌, ◌<◌, List, [], ◌∷◌, length, get_or, drop, sym, ap, ◌∙◌, arith, true, false, add-one, drop-cons}
-use Rattle.std.proofs.lemmas.Bool.Decides.{nat_tests}
+use Rattle.std.proofs.Common.{◌≡◌, ℕ, ◌+◌, ◌<◌, List, [], ◌∷◌, Bool, length, get_or, drop, refl, sym, ap, ◌∙◌, arith, true, false, add-one, drop-cons}
+use Rattle.std.proofs.lemmas.{Bool.Decides.nat_tests, Grind.common_steps}
+use Rattle.std.specs.List.{list_any}
 use Rattle.std.specs.Prelude.{◌==◌}
 use Rattle.domain_types.specs.Reading.{has_quote}
 
@@ -16,5 +17,16 @@ quote_here octets i below is = rw (rest_of octets i below) (let e : (get_or octe
 pub quote_passed : (octets : List ℕ) (i : ℕ) → i < length octets → (get_or octets i 0 ≡ 34 → ⊥)
     → has_quote (get_or octets i 0 == 92) (drop (i + 1) octets) ≡ has_quote false (drop i octets)
 quote_passed octets i below other = rw (rest_of octets i below) (let e : (get_or octets i 0 == 34) ≡ false = grind (arith, nat_tests) in rw e)
+
+-- octets without a quote
+without_quote : (taken : Bool) (octets : List ℕ) → list_any (λ c. c == 34) octets ≡ false → has_quote taken octets ≡ false
+without_quote taken [] none = refl
+without_quote true (c ∷ octets) none = without_quote false octets (grind (arith, common_steps, none))
+without_quote false (c ∷ octets) none =
+    let here : (c == 34) ≡ false = grind (arith, common_steps, none) in
+    rw here (without_quote (c == 92) octets (grind (arith, common_steps, none)))
+
+pub no_quote : (octets : List ℕ) → list_any (λ c. c == 34) octets ≡ false → has_quote false octets ≡ false
+no_quote octets none = without_quote false octets none
 
 pub ruleset quote_steps = (quote_taken, quote_here, quote_passed)

@@ -68,8 +68,8 @@ fn going_on(going: Going, c: u8) -> Going
     }
 }
 
-/// Returns whether a text ends in a dot that no backslash escapes.
-fn ends_in_dot(text: &[u8]) -> bool
+/// Returns whether a text ends in a dot that no backslash escapes, seen from its beginning.
+fn goes_on_after_dot(text: &[u8]) -> bool
     ensures { result ≡ ends_in_dot text.now }
 {
     let mut going = Going::Inside;
@@ -77,6 +77,19 @@ fn ends_in_dot(text: &[u8]) -> bool
         going = going_on(going, *c);
     }
     matches!(going, Going::AfterDot)
+}
+
+/// Returns whether a text ends in a dot that no backslash escapes. Its last two octets tell, unless
+/// the first of them is a backslash.
+#[tactic(auto, using(std::proofs::lemmas::Grind::common_steps, crate::proofs::DotLemmas::last_dot))]
+fn ends_in_dot(text: &[u8]) -> bool
+    ensures { result ≡ ends_in_dot text.now }
+{
+    let len = text.len();
+    if len < 2 || text[len - 2] == b'\\' {
+        return goes_on_after_dot(text);
+    }
+    text[len - 1] == b'.'
 }
 
 /// Returns the wire form of a name and the origin after it, if it has at most 255 octets.

@@ -1,12 +1,12 @@
 -- Lexemes: how runs, tokens and quoted tokens go on, and how long lexemes are.
-use Rattle.std.proofs.Common.{arith, ℕ, suc, ◌+◌, ◌-◌, ◌<◌, ◌≤◌, ◌≡◌, ◌≢◌, ◌∷◌, [], refl, ap, ◌∙◌, sym, length, take, drop, get_or, add-one, Bool}
+use Rattle.std.proofs.Common.{arith, ℕ, zero, suc, ◌+◌, ◌-◌, ◌<◌, ◌≤◌, ◌≡◌, ◌≢◌, ◌∷◌, [], refl, ap, ◌∙◌, sym, length, take, drop, get_or, add-one, Bool}
 use Rattle.std.proofs.Common.{true, false, Option, Some, None}
 use Rattle.std.proofs.{Math.Seq.drop-cons, lemmas.Grind.common_steps, lemmas.List.drop-drop}
 use Rattle.std.proofs.lemmas.List.Sums.{prefix_len-drop_yes, prefix_len-drop_no, prefix_len-drop_all, prefix_len-le-length}
-use Rattle.std.specs.{List.prefix_len, Prelude.{◌&&◌, ◌==◌, if◌then◌else◌}}
+use Rattle.std.specs.{List.prefix_len, Prelude.{◌&&◌, ◌==◌, if◌then◌else◌, slice_index}}
 use Rattle.domain_octets.specs.Octets.{Octets}
 use Rattle.domain_octets.specs.Text.{is_blank}
-use Rattle.domain_zonefile.specs.Lexemes.{is_comment, is_return, is_separator, is_escape, quoted_from, word_from, valued, quoted_fault}
+use Rattle.domain_zonefile.specs.Lexemes.{is_comment, is_return, is_separator, is_escape, IsOrdinary, quoted_from, word_from, valued, quoted_fault}
 use Rattle.domain_zonefile.specs.Lexemes.{quoted_step, first_fault, with_fault}
 use Rattle.domain_zonefile.specs.Lexemes.{equals_after, is_after, lexeme_at, lexeme_len, HasBounds, inner_len, begins_apart, begins_at_line_end, returns_at}
 use Rattle.domain_zonefile.specs.declared.lexeme.Lexeme.{Lexeme, TheVariants.{Gap, LineEnd, Open, Close, Word, Quoted, Bad}}
@@ -47,6 +47,16 @@ pub word_more : (text : Octets) (n : ℕ) (equals : Option ℕ) → n < length t
     → word_from n false equals (drop n text) ≡ word_from (n + 1) false (equals_after n (get_or text n 0) equals) (drop (n + 1) text)
 unfolding word_from
 word_more text n equals h apart quote slash = rw (split_at text n h) (grind (arith, common_steps))
+
+-- ordinary octets continue the token
+pub word_run : (text : Octets) (n : ℕ) → n ≤ length text → ((k : ℕ) → k < n → IsOrdinary (slice_index text k)) → Wording text n None
+word_run text zero within all = record { within = within; same = refl }
+word_run text (suc n) within all =
+    let before = word_run text n (omega (arith, within)) (λ k h. all k (omega (arith, h))) in
+    let here = all n (omega arith) in
+    let step = word_more text n None (omega (arith, within)) here.apart here.quote_not here.backslash_not in
+    let none : equals_after n (get_or text n 0) None ≡ None = grind (arith, here.equals_not) in
+    record { within = within; same = grind (arith, step, none, before.same) }
 
 pub word_ends : (text : Octets) (n : ℕ) (equals : Option ℕ) → n < length text → is_separator (get_or text n 0) ≡ true
     → word_from n false equals (drop n text) ≡ Word n

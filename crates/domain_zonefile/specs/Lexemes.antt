@@ -1,6 +1,6 @@
 -- The lexemes of a zone file: the smallest parts of its octets that have a meaning (RFC 1035,
 -- section 5.1).
-use Rattle.std.specs.Prelude.{ℕ, ◌+◌, ◌≤◌, ◌==◌, ◌||◌, ◌&&◌, Bool, true, false, not, [], ◌∷◌, drop, Option, Some, None, if◌then◌else◌, is_some}
+use Rattle.std.specs.Prelude.{◌≡◌, ◌≢◌, ℕ, ◌+◌, ◌≤◌, ◌==◌, ◌||◌, ◌&&◌, Bool, true, false, not, [], ◌∷◌, drop, Option, Some, None, if◌then◌else◌, is_some}
 use Rattle.std.specs.{Char.is_ascii_digit, List.prefix_len}
 use Rattle.domain_octets.specs.{Octets.Octets, Text.{is_blank, line_feed, quote, left_parenthesis, right_parenthesis, semicolon, equals_sign, backslash}}
 use Rattle.domain_names.specs.Text.{decimal_at}
@@ -27,6 +27,13 @@ abbrev pub is_separator : ℕ → Bool
 is_separator c =
     is_blank c || c == line_feed || c == carriage_return || c == 0 || c == semicolon
     || c == left_parenthesis || c == right_parenthesis
+
+-- an octet that only continues an unquoted token: no separator, quote, backslash or equals sign
+pub record IsOrdinary (c : ℕ) : Type 0 where
+  pub apart : is_separator c ≡ false
+  pub quote_not : c ≢ quote
+  pub backslash_not : c ≢ backslash
+  pub equals_not : c ≢ equals_sign
 
 -- ---- escapes
 

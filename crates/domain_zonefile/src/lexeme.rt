@@ -1,8 +1,8 @@
 //! The lexemes of a zone file, one at a time (RFC 1035, section 5.1).
-ghost use Rattle.std.specs.Prelude.{◌≡◌, ◌≤◌, ◌<◌, ◌+◌, ◌↔◌, ◌≢◌, false, None, IsTrue, [], length, drop};
+ghost use Rattle.std.specs.Prelude.{◌≡◌, ◌≤◌, ◌<◌, ◌+◌, ◌↔◌, ℕ, false, None, IsTrue, [], length, drop, slice_index};
 ghost use Rattle.std.specs.List.{prefix_len};
 ghost use Rattle.domain_octets.specs.Text.{is_blank};
-ghost use Rattle.domain_zonefile.specs.Lexemes.{is_comment, is_return, is_separator, is_escape};
+ghost use Rattle.domain_zonefile.specs.Lexemes.{is_comment, is_return, is_separator, is_escape, IsOrdinary};
 ghost use Rattle.domain_zonefile.specs.Lexemes.{begins_apart, begins_at_line_end, quoted_from, valued};
 ghost use Rattle.domain_zonefile.specs.Lexemes.{HasBounds, quoted_fault, quoted_step, first_fault, equals_after, returns_at};
 ghost use Rattle.domain_zonefile.specs.Lexemes.{word_from, is_after, lexeme_at, lexeme_len, with_fault};
@@ -35,13 +35,25 @@ fn is_separator(octet: u8) -> bool
     octet <= b';' && matches!(octet, b' ' | b'\t' | b'\n' | b'\r' | 0 | b';' | b'(' | b')')
 }
 
-/// Returns whether an octet only continues an unquoted token: it is no separator, no quote, no
-/// backslash and no equals sign.
+/// Returns whether an octet only continues an unquoted token. Tests for lower case letters first.
 fn is_ordinary(octet: u8) -> bool
-    ensures { IsTrue result → (is_separator octet ≡ false) × (octet ≢ 34) × (octet ≢ 92)
-        × (octet ≢ 61) }
+    ensures { IsTrue result → IsOrdinary octet }
 {
-    octet > b'=' && octet != b'\\' || octet > b')' && octet < b';'
+    octet > b'\\' || octet > b'=' && octet < b'\\' || octet > b')' && octet < b';'
+}
+
+/// Returns a number of octets at the front that only continue an unquoted token.
+#[tactic(auto, using(std::proofs::lemmas::Grind::common_steps))]
+fn ordinary_len(text: &[u8]) -> usize
+    ensures within { result ≤ length text.now }
+    ensures ordinary { (k : ℕ) → k < result → IsOrdinary (slice_index text.now k) }
+{
+    for (i, octet) in text.iter().enumerate() {
+        if !is_ordinary(*octet) {
+            return i;
+        }
+    }
+    text.len()
 }
 
 /// Returns whether an escape's octets follow a backslash: three digits up to 255, or an octet that
@@ -261,7 +273,7 @@ fn equals_after(place: usize, octet: u8, equals: Option<usize>) -> Option<usize>
 fn word(text: &[u8]) -> Lexeme
     ensures { result ≡ word_from 0 false None text.now }
 {
-    let mut len = 0;
+    let mut len = ordinary_len(text);
     let mut equals = None;
     'word: while len < text.len() {
         let octet = text[len];
