@@ -16,8 +16,8 @@ impl Reason {
             Reason::NoSoa => ("the apex ", " owns no SOA record"),
             Reason::SecondSoa => ("the apex owns the SOA record of line ", " already"),
             Reason::StraySoa => ("", " owns an SOA record, and is not the apex"),
-            Reason::OtherClass => ("the class is ", ""),
-            Reason::OtherTtl => ("the TTL is ", ""),
+            Reason::OtherClass => ("the class of ", ""),
+            Reason::OtherTtl => ("the TTL of ", ""),
             Reason::Outside => ("", ": the record is ignored"),
             Reason::BesideAlias => (
                 "",
@@ -52,14 +52,13 @@ pub fn text_of(
         Reason::SecondSoa => format!(in alloc; "{line}"),
         Reason::StraySoa => format!(in alloc; "{name}"),
         Reason::OtherClass => {
-            let other = first.borrowed.class();
-            format!(in alloc; "{}, but that of line {line} is {other}", borrowed.class())
+            let (class, other) = (borrowed.class(), first.borrowed.class());
+            format!(in alloc; "{name} {rtype} is {class}, but that of line {line} is {other}")
         }
-        Reason::OtherTtl => format!(in alloc;
-            "{}, but that of line {line}, with the same owner and type, is {}",
-            borrowed.ttl().as_secs(),
-            first.borrowed.ttl().as_secs()
-        ),
+        Reason::OtherTtl => {
+            let (ttl, other) = (borrowed.ttl().as_secs(), first.borrowed.ttl().as_secs());
+            format!(in alloc; "{name} {rtype} is {ttl}, but that of line {line} is {other}")
+        }
         Reason::Outside if place.has_dot => format!(in alloc;
             "{name} is outside of the zone {apex}"
         ),
