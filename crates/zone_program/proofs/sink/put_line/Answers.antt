@@ -1,9 +1,8 @@
 use Rattle.std.proofs.Common.{ap, ◌∙◌, ◌++◌}
 use Rattle.std.specs.Prelude.{string_bytes}
-use Rattle.domain_zonefile.specs.Records.{record_with}
 use Rattle.zone_program.specs.Lines.{zone_line}
 use Rattle.zone_program.proofs.LineLemmas.{line_is}
-use Rattle.zone_program.proofs.lines.put_line.Goals as goal
+use Rattle.zone_program.proofs.sink.put_line.Goals as goal
 
 pub returns : goal.returns
 returns c =
