@@ -5,6 +5,7 @@ use Rattle.domain_octets.specs.Octets.{Octets}
 use Rattle.domain_names.specs.Name.{Name, Token, Tokens}
 use Rattle.domain_nsec3.specs.View.{HasherAnswer}
 use Rattle.domain_groups.specs.declared.error.SigningError.{SigningError}
+use Rattle.domain_includes.specs.Files.{Contents}
 use Rattle.denial_program.specs.{Answer.{Answers, GivesNoAnswer}, Command.{IsCommand, Params}}
 use Rattle.denial_program.specs.{Fault.{IsBeforeOutput, IsReadToEnd, TellsUsage}, Run.IsProgramRun, Text.reply_text}
 use Rattle.denial_program.specs.declared.{answer.ParamFlags.ParamFlags, fault.DenialFault.{DenialFault, TheVariants.{OutOfMemory, Signing}}}
@@ -61,12 +62,12 @@ pub record IsLintRun {W : Type 0} (words : Tokens) (on : Setup W)
   pub end : OnOk result (IsReadToEnd on.input on.left)
   pub untouched : IfErr result (λ e. IsBeforeOutput e → on.after ≡ on.before)
 
--- that of `run_zone`
-pub record IsZoneRun {W : Type 0} (words : Tokens) (on : Setup W)
+-- that of `run_zone`, over a zone file at a path
+pub record IsZoneRun {W : Type 0} (gives : Contents) (path : Octets) (words : Tokens) (on : Setup W)
     (result : Result (Unit {0}) ZoneFault) : Type 0 where
-  pub ok : OnOk result (IfSome on.input (λ file. (text : Octets) × LinesOfRun words file text
-      × Appends on.old on.new text))
-  pub err : IfErr result (NoRun words on.input)
+  pub ok : OnOk result (IfSome on.input (λ file. (text : Octets)
+      × LinesOfRun gives path words file text × Appends on.old on.new text))
+  pub err : IfErr result (NoRun gives path words on.input)
   pub untouched : IfErr result (λ e. IsBeforeWriting e → on.after ≡ on.before)
 
 -- ---- What is reported of each.
@@ -93,23 +94,26 @@ RunsLint words on (Ok outcome) = IsLintRun words on (Ok outcome)
 RunsLint words on (Err fault) =
     (e : DenialFault) × (fault ≡ fault_of.Lint e) × IsLintRun words on (Err e)
 
-abbrev pub RunsZone : {W : Type 0} → Tokens → Setup W → Result Outcome CommandFault → Type 0
-RunsZone words on result = ToldAs fault_of.Zone (IsZoneRun words on) result
+abbrev pub RunsZone : {W : Type 0} → Contents → Octets → Tokens → Setup W
+    → Result Outcome CommandFault → Type 0
+RunsZone gives path words on result = ToldAs fault_of.Zone (IsZoneRun gives path words on) result
 
 -- ---- The table of commands.
 
--- a run of this subcommand, with the word that names it, and the arguments behind it
-abbrev pub RunsAs : {W : Type 0} → Subcommand → Token → Tokens → Setup W
+-- a run of this subcommand over the input at a path, with the word that names it, and the arguments
+-- behind it
+abbrev pub RunsAs : {W : Type 0} → Contents → Octets → Subcommand → Token → Tokens → Setup W
     → Result Outcome CommandFault → Type 0
-RunsAs Denial word words on result = RunsDenial (word ∷ words) on result
-RunsAs Judge word words on result = RunsJudge words on result
-RunsAs Answer word words on result = RunsAnswer words on result
-RunsAs Lint word words on result = RunsLint words on result
-RunsAs Zone word words on result = RunsZone words on result
+RunsAs gives path Denial word words on result = RunsDenial (word ∷ words) on result
+RunsAs gives path Judge word words on result = RunsJudge words on result
+RunsAs gives path Answer word words on result = RunsAnswer words on result
+RunsAs gives path Lint word words on result = RunsLint words on result
+RunsAs gives path Zone word words on result = RunsZone gives path words on result
 
 -- a run with these arguments; without any it is that of the specification
-abbrev pub RunsCommand : {W : Type 0} → Tokens → Setup W → Result Outcome CommandFault → Type 0
-RunsCommand [] on result = RunsDenial [] on result
-RunsCommand (word ∷ words) on result =
+abbrev pub RunsCommand : {W : Type 0} → Contents → Octets → Tokens → Setup W
+    → Result Outcome CommandFault → Type 0
+RunsCommand gives path [] on result = RunsDenial [] on result
+RunsCommand gives path (word ∷ words) on result =
     (subcommand : Subcommand) × IsSubcommand word subcommand
-    × RunsAs subcommand word words on result
+    × RunsAs gives path subcommand word words on result

@@ -1,18 +1,19 @@
 -- A run of a command over the records of a zone file.
-use Rattle.std.specs.{Prelude.{◌≡◌, ◌⊎◌, ◌||◌, [], ◌∷◌, Bool, false, Option, Some, Result, Ok, Err, codes}, Str.bytes_eq}
+use Rattle.std.specs.{Prelude.{◌≡◌, ◌⊎◌, ◌||◌, [], ◌∷◌, Bool, false, Option, Some, Result, Ok, Err, codes, string_bytes}, Str.bytes_eq}
 use Rattle.domain_octets.specs.Octets.{Octets}
 use Rattle.domain_names.specs.Name.{Name, Token, Tokens}
 use Rattle.domain_nsec3.specs.View.{HasherAnswer}
-use Rattle.domain_zonefile.specs.{Entries.items_from, Places.without_mark, Records.start_state}
+use Rattle.domain_includes.specs.Files.{Contents}
 use Rattle.denial_program.specs.Command.{AsksAbout, IsNoCommand, Params}
 use Rattle.denial_program.specs.declared.{answer.ParamFlags.TheVariants.{Zero as zero_flags}, fault.DenialFault.DenialFault}
 use Rattle.denial_program.specs.declared.fault.DenialFault.TheVariants as denial_fault
 use Rattle.judge_program.specs.Command.{AsksToJudgeAbout, IsNoJudgeCommand}
 use Rattle.lint_program.specs.{Command.{AsksToLint, IsNoLintCommand}, declared.outcome.Outcome.Outcome}
-use Rattle.zone_program.specs.{Lines.NoLines, Numbered.NumberedLines, declared.fault.ZoneFault.{ZoneFault, TheVariants.{Usage as zone_usage}}}
+use Rattle.zone_program.specs.Lines.{AreLinesOf, NoLines}
+use Rattle.zone_program.specs.declared.{places.ZoneLines.ZoneLines, fault.ZoneFault.{ZoneFault, TheVariants.{Usage as zone_usage}}}
 use Rattle.denial_commands.specs.{Command.{answer_words, IsSubcommand}, Run.{RunsCommand, Setup}, Source.is_one_of}
 use Rattle.denial_commands.specs.declared.command.Subcommand.{Subcommand, TheVariants.{Denial, Judge, Answer, Lint, Zone}}
-use Rattle.denial_commands.specs.declared.fault.ZoneRunFault.{ZoneRunFault, TheVariants.{File, Command}}
+use Rattle.denial_commands.specs.declared.{zone.ZoneRun.ZoneRun, fault.ZoneRunFault.{ZoneRunFault, TheVariants.{Command, File, Records}}}
 use Rattle.denial_commands.specs.declared.fault.CommandFault.{CommandFault}
 use Rattle.denial_commands.specs.declared.fault.CommandFault.TheVariants as fault_of
 
@@ -71,41 +72,44 @@ HasNoApex (word ∷ words) fault =
     (subcommand : Subcommand) × IsSubcommand word subcommand
     × HasNoApexAs subcommand word words fault
 
--- the run of the command over these lines
-pub record RunsOnLines {W : Type 0} (words : Tokens) (text : Octets) (answers : HasherAnswer)
-    (old new : Option Octets) (before after : W) (result : Result Outcome CommandFault) : Type 0
-  where
-    pub left : Option Octets
-    pub run : RunsCommand words (record {
-      flags = zero_flags;
-      answers = answers;
-      input = Some text;
-      left = left;
-      old = old;
-      new = new;
-      before = before;
-      after = after;
-    }) result
+-- the file at a path has these lines for the apex of the arguments
+abbrev pub AreLinesFor : Contents → Octets → Tokens → Octets → ZoneLines → Type 0
+AreLinesFor gives path words file lines =
+    (apex : Name) × IsAbout words apex × AreLinesOf gives path file apex (leaves_out words) lines
 
--- the file has lines for the apex of the arguments, and the command runs over these
-pub record RunsOnFile {W : Type 0} (words : Tokens) (file : Octets) (answers : HasherAnswer)
-    (old new : Option Octets) (before after : W) (result : Result Outcome CommandFault) : Type 0
-  where
-    pub apex : Name
-    pub about : IsAbout words apex
-    pub text : Octets
-    pub lines : NumberedLines (leaves_out words) (without_mark file) 0 (start_state apex)
-        (items_from (without_mark file) 0) text
-    pub runs : RunsOnLines words text answers old new before after result
+-- why it has none: the arguments are no command, or the first fault of the file
+abbrev pub HaveNoLines : Contents → Octets → Tokens → Octets → ZoneRunFault → Type 0
+HaveNoLines gives path words file (Command fault) = HasNoApex words fault
+HaveNoLines gives path words file (File fault) =
+    (apex : Name) × IsAbout words apex × NoLines gives path file apex fault
+HaveNoLines gives path words file (Records fault lines) = ⊥
+
+-- the file at a path has these lines, and the command runs over them
+pub record RunsOnFile {W : Type 0} (gives : Contents) (path : Octets) (words : Tokens)
+    (file : Octets) (answers : HasherAnswer) (old new : Option Octets) (before after : W)
+    (lines : ZoneLines) (result : Result Outcome CommandFault) : Type 0 where
+  pub are : AreLinesFor gives path words file lines
+  pub left : Option Octets
+  pub run : RunsCommand gives path words (record {
+    flags = zero_flags;
+    answers = answers;
+    input = Some (string_bytes lines.text);
+    left = left;
+    old = old;
+    new = new;
+    before = before;
+    after = after;
+  }) result
 
 -- a run over a file: the arguments are no command; or this is the first fault of the file; or the
 -- command runs over its lines. Only then is anything written
-abbrev pub RunsOverZone : {W : Type 0} → Tokens → Octets → HasherAnswer → Option Octets → Option Octets → W → W → Result Outcome ZoneRunFault → Type 0
-RunsOverZone words file answers old new before after (Ok outcome) =
-    RunsOnFile words file answers old new before after (Ok outcome)
-RunsOverZone words file answers old new before after (Err (Command fault)) =
-    (HasNoApex words fault × (after ≡ before))
-    ⊎ RunsOnFile words file answers old new before after (Err fault)
-RunsOverZone words file answers old new before after (Err (File fault)) =
-    (apex : Name) × IsAbout words apex × (after ≡ before)
-    × NoLines (without_mark file) (start_state apex) (items_from (without_mark file) 0) fault
+abbrev pub RunsOverZone : {W : Type 0} → Contents → Octets → Tokens → Octets → HasherAnswer
+    → Option Octets → Option Octets → W → W → Result ZoneRun ZoneRunFault → Type 0
+RunsOverZone gives path words file answers old new before after (Ok found) =
+    RunsOnFile gives path words file answers old new before after found.lines (Ok found.outcome)
+RunsOverZone gives path words file answers old new before after (Err (Records fault lines)) =
+    RunsOnFile gives path words file answers old new before after lines (Err fault)
+RunsOverZone gives path words file answers old new before after (Err (Command fault)) =
+    HasNoApex words fault × (after ≡ before)
+RunsOverZone gives path words file answers old new before after (Err (File fault)) =
+    (apex : Name) × IsAbout words apex × NoLines gives path file apex fault × (after ≡ before)

@@ -3,14 +3,15 @@ ghost use Rattle.std.specs.Prelude.{◌≡◌};
 ghost use Rattle.denial_commands.specs.Text.{command_status, zone_run_status};
 
 use denial_program::DenialFault;
+use domain_includes::PathText;
 use judge_program::JudgeFault;
 use lint_program::LintFault;
 use std::fmt;
-use zone_program::ZoneFault;
+use zone_program::{ZoneFault, ZoneLines};
 
 /// The reason why a run over records, one a line, stops. Its text is what the program prints on
 /// standard error.
-#[derive(Clone, Copy, Debug)]
+#[derive(Debug, Drop)]
 pub enum CommandFault {
     /// A fault of `nsec`, `nsec3` or `check`, or the arguments are no command.
     Denial(DenialFault),
@@ -38,22 +39,24 @@ impl CommandFault {
 
 impl fmt::Display for CommandFault {
     fn fmt<W: fmt::Write>(&self, f: &mut fmt::Formatter<W>) -> fmt::Result {
-        match *self {
+        match self {
             CommandFault::Denial(fault) => write!(f, "{fault}"),
-            CommandFault::Judge(fault) => write!(f, "{}", JudgeFault::from(fault)),
-            CommandFault::Lint(fault) => write!(f, "{}", LintFault::from(fault)),
+            CommandFault::Judge(fault) => write!(f, "{}", JudgeFault::from(*fault)),
+            CommandFault::Lint(fault) => write!(f, "{}", LintFault::from(*fault)),
             CommandFault::Zone(fault) => write!(f, "{fault}"),
         }
     }
 }
 
 /// The reason why a run over a zone file stops.
-#[derive(Clone, Copy, Debug)]
+#[derive(Drop)]
 pub enum ZoneRunFault {
+    /// The arguments are no command that reads records, or memory ran out.
+    Command(CommandFault),
     /// The file has no records: its first fault, or memory ran out.
     File(ZoneFault),
-    /// The run over its records stops.
-    Command(CommandFault),
+    /// The run over these lines stops, which are those of the records of the file.
+    Records(CommandFault, ZoneLines),
 }
 
 impl ZoneRunFault {
@@ -62,54 +65,89 @@ impl ZoneRunFault {
         ensures { result ≡ zone_run_status self.now }
     {
         match self {
-            ZoneRunFault::File(fault) => fault.status(),
             ZoneRunFault::Command(fault) => fault.status(),
+            ZoneRunFault::File(fault) => fault.status(),
+            ZoneRunFault::Records(fault, _) => fault.status(),
         }
     }
 }
 
 /// The reason why a run over a zone file stops, with the name of the file. Its text begins with the
 /// name and the place, as `FILE:LINE:COLUMN: ` or, for a record, `FILE:LINE: `, if it has a place.
-#[derive(Clone, Copy, Debug)]
+/// In an included file it begins with the path of that file.
+#[derive(Clone, Copy)]
 pub struct FileFault<'a> {
     /// The name of the file.
     pub file: &'a str,
+    /// The path of the file, or nothing for standard input.
+    pub path: &'a [u8],
     /// The reason.
-    pub fault: ZoneRunFault,
+    pub fault: &'a ZoneRunFault,
 }
 
-/// Writes a fault of the records of a file.
-fn write_of_records<W: fmt::Write>(
-    f: &mut fmt::Formatter<W>,
-    file: &str,
-    fault: DenialFault,
-    whole: CommandFault,
-) -> fmt::Result {
-    match fault {
-        DenialFault::Line(line) => write!(f, "{file}:{line}: bad record"),
-        DenialFault::MixedClasses => write!(f, "denial: {file}: more than one class"),
-        DenialFault::Signing(error) => write!(f, "denial: {file}: {error}"),
-        DenialFault::Param => write!(f, "denial: {file}: no single NSEC3PARAM at the apex"),
-        _ => write!(f, "{whole}"),
+impl FileFault<'_> {
+    /// Writes the place of the record of a line, and what is wrong with it.
+    fn write_record<W: fmt::Write>(
+        &self,
+        f: &mut fmt::Formatter<W>,
+        lines: &ZoneLines,
+        number: usize,
+    ) -> fmt::Result {
+        match lines.place_of(number) {
+            Some(place) if place.path != self.path => {
+                write!(f, "{}:{}: bad record", PathText(place.path), place.line)
+            }
+            Some(place) => write!(f, "{}:{}: bad record", self.file, place.line),
+            None => write!(f, "{}: bad record", self.file),
+        }
+    }
+
+    /// Writes a fault of the records of the file.
+    fn write_of_records<W: fmt::Write>(
+        &self,
+        f: &mut fmt::Formatter<W>,
+        lines: &ZoneLines,
+        fault: DenialFault,
+        whole: &CommandFault,
+    ) -> fmt::Result {
+        let file = self.file;
+        match fault {
+            DenialFault::Line(number) => self.write_record(f, lines, number as usize),
+            DenialFault::MixedClasses => write!(f, "denial: {file}: more than one class"),
+            DenialFault::Signing(error) => write!(f, "denial: {file}: {error}"),
+            DenialFault::Param => write!(f, "denial: {file}: no single NSEC3PARAM at the apex"),
+            _ => write!(f, "{whole}"),
+        }
+    }
+
+    /// Writes a fault of the run over the lines of the file.
+    fn write_of_run<W: fmt::Write>(
+        &self,
+        f: &mut fmt::Formatter<W>,
+        lines: &ZoneLines,
+        whole: &CommandFault,
+    ) -> fmt::Result {
+        match whole {
+            CommandFault::Denial(fault) => self.write_of_records(f, lines, *fault, whole),
+            CommandFault::Judge(fault) => self.write_of_records(f, lines, *fault, whole),
+            CommandFault::Lint(fault) => self.write_of_records(f, lines, *fault, whole),
+            CommandFault::Zone(_) => write!(f, "{whole}"),
+        }
     }
 }
 
 impl fmt::Display for FileFault<'_> {
     fn fmt<W: fmt::Write>(&self, f: &mut fmt::Formatter<W>) -> fmt::Result {
-        let file = self.file;
         match self.fault {
-            ZoneRunFault::File(ZoneFault::File(place, kind)) => {
-                write!(f, "{file}:{}:{}: {kind}", place.line, place.column)
+            ZoneRunFault::File(ZoneFault::File(fault)) => {
+                if fault.path.is_none() {
+                    write!(f, "{}:", self.file)?;
+                }
+                write!(f, "{fault}")
             }
             ZoneRunFault::File(fault) => write!(f, "{fault}"),
-            ZoneRunFault::Command(whole) => {
-                match whole {
-                    CommandFault::Denial(fault) => write_of_records(f, file, fault, whole),
-                    CommandFault::Judge(fault) => write_of_records(f, file, fault, whole),
-                    CommandFault::Lint(fault) => write_of_records(f, file, fault, whole),
-                    CommandFault::Zone(_) => write!(f, "{whole}"),
-                }
-            }
+            ZoneRunFault::Command(whole) => write!(f, "{whole}"),
+            ZoneRunFault::Records(whole, lines) => self.write_of_run(f, lines, whole),
         }
     }
 }

@@ -32,9 +32,9 @@ usage: denial nsec APEX [--zone FILE]
     denial --version         (or -V) prints the version
 
 --zone FILE reads a zone file; - is standard input. Names are relative to APEX until $ORIGIN.
-$INCLUDE and $GENERATE are not read. nsec, nsec3 and lint leave out the NSEC, NSEC3, NSEC3PARAM and
-RRSIG records of a signed file. A mistake is reported as FILE:LINE:COLUMN, and nothing is printed
-then:
+Paths of $INCLUDE are relative to the folder of the file; $GENERATE is not read. nsec, nsec3 and
+lint leave out the NSEC, NSEC3, NSEC3PARAM and RRSIG records of a signed file. A mistake is reported
+as FILE:LINE:COLUMN, and nothing is printed then:
 
     $ printf '$TTL 1h\n@ SOA b c 1 2 3 4 1800\nn A 192.0.2.1\n' | ./denial nsec a. --zone -
     a. 1800 IN NSEC n.a. SOA RRSIG NSEC DNSKEY
@@ -130,17 +130,17 @@ are only warnings, 0 if there is nothing to report:
     line 1, word 2: '1h' is not a TTL: write 3600 seconds, without a unit
 
 With ITERATIONS and SALT, as for nsec3, it also reports hashed owner names that are too long, and
-names that have the same hash. With --zone the number of a line is that of the file; a mistake of
-the file itself is reported alone.
+names that have the same hash. With --zone the number of a line is that of the file, and a record
+of an included file is reported as FILE:LINE; a mistake of a file itself is reported alone.
 ";
 
 /// What `denial zone --help` prints.
 const ZONE: &str = r"usage: denial zone APEX [unsigned]
 
 Prints the records of a zone file, one a line, as the other commands read them without --zone. APEX
-is the origin until $ORIGIN. unsigned leaves out NSEC, NSEC3, NSEC3PARAM and RRSIG records. $INCLUDE
-and $GENERATE are not read. A mistake is reported with its line and column, and nothing is printed
-then:
+is the origin until $ORIGIN. unsigned leaves out NSEC, NSEC3, NSEC3PARAM and RRSIG records. Append a
+file name to read it instead of standard input: paths of $INCLUDE are relative to its folder.
+$GENERATE is not read. A mistake is reported with its line and column, and nothing is printed then:
 
     $ printf '$TTL 1h\n@ SOA b c 1 2 3 4 1800\n' | ./denial zone a. | ./denial nsec a.
     a. 1800 IN NSEC a. SOA RRSIG NSEC DNSKEY

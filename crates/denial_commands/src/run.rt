@@ -8,6 +8,7 @@ use crate::command::{Subcommand, subcommand_of};
 use crate::fault::CommandFault;
 use denial_program::{DenialFault, ParamFlags, run_with};
 use domain_hasher::Nsec3Hasher;
+use domain_includes::FileSource;
 use domain_octets::OutOfMemory;
 use judge_program::run_judge;
 use lint_program::{Outcome, run_lint};
@@ -117,14 +118,16 @@ fn run_linting<R: BufRead, W: Write, H: Nsec3Hasher>(
 }
 
 /// Runs `zone` with these arguments.
-fn run_listing<R: BufRead, W: Write>(
+fn run_listing<F: FileSource, R: BufRead, W: Write>(
     alloc: Global,
     words: &[String],
+    files: &F,
+    path: &[u8],
     input: &mut R,
     output: &mut W,
 ) -> Result<Outcome, CommandFault>
-    ensures { (flags : ParamFlags) (answers : HasherAnswer) → RunsZone (map string_bytes words.now)
-        (record {
+    ensures { (flags : ParamFlags) (answers : HasherAnswer) → RunsZone (F.gives files.now) path.now
+        (map string_bytes words.now) (record {
           flags = flags;
           answers = answers;
           input = R.remaining input.old;
@@ -135,14 +138,16 @@ fn run_listing<R: BufRead, W: Write>(
           after = output.new;
         }) result }
 {
-    match run_zone(alloc, words, input, output) {
+    match run_zone(alloc, words, files, path, input, output) {
         Ok(()) => Ok(Outcome::Clean),
         Err(fault) => Err(CommandFault::Zone(fault)),
     }
 }
 
 /// Runs the command that the first argument names, over what the input has: records, one a line, or
-/// a zone file for `zone`. Returns what `lint` found, and `Clean` for any other command.
+/// a zone file for `zone`. Returns what `lint` found, and `Clean` for any other command. The path
+/// is that of the input, or empty: `zone` reads the files that the zone file includes, whose paths
+/// are relative to its folder.
 ///
 /// `nsec`, `nsec3` and `check` run as `run_denial` does, but the NSEC3PARAM record that `nsec3`
 /// writes has flags as chosen. So do arguments that are no command. `judge` and `answer` run as
@@ -152,15 +157,17 @@ fn run_listing<R: BufRead, W: Write>(
 /// # Errors
 ///
 /// Those of these functions, as faults of the command.
-pub fn run_command<R: BufRead, W: Write, H: Nsec3Hasher>(
+pub fn run_command<F: FileSource, R: BufRead, W: Write, H: Nsec3Hasher>(
     alloc: Global,
     words: &[String],
     flags: ParamFlags,
     hasher: &H,
+    files: &F,
+    path: &[u8],
     input: &mut R,
     output: &mut W,
 ) -> Result<Outcome, CommandFault>
-    ensures { RunsCommand (map string_bytes words.now) (record {
+    ensures { RunsCommand (F.gives files.now) path.now (map string_bytes words.now) (record {
       flags = flags;
       answers = H.answer hasher.now;
       input = R.remaining input.old;
@@ -179,6 +186,6 @@ pub fn run_command<R: BufRead, W: Write, H: Nsec3Hasher>(
         Subcommand::Judge => run_judging(alloc, rest, hasher, input, output),
         Subcommand::Answer => run_answering(alloc, rest, hasher, input, output),
         Subcommand::Lint => run_linting(alloc, rest, hasher, input, output),
-        Subcommand::Zone => run_listing(alloc, rest, input, output),
+        Subcommand::Zone => run_listing(alloc, rest, files, path, input, output),
     }
 }

@@ -3,7 +3,7 @@ ghost use Rattle.std.specs.Prelude.{◌≡◌, map, string_bytes, IfOk, IfErr};
 ghost use Rattle.denial_program.specs.Command.{AsksAbout};
 ghost use Rattle.judge_program.specs.Command.{AsksToJudgeAbout};
 ghost use Rattle.denial_commands.specs.{Command.answer_words, Zone.{leaves_out, leaves_out_by, AsksToLintAbout, HasNoApex, HasNoDeniedApex, HasNoJudgedApex}};
-ghost use Rattle.denial_commands.specs.Zone.{HasNoLintedApex, IsAbout, RunsOverZone};
+ghost use Rattle.denial_commands.specs.Zone.{AreLinesFor, HasNoLintedApex, HaveNoLines, IsAbout, RunsOverZone};
 
 use crate::answer::answer_words;
 use crate::command::{Subcommand, subcommand_of};
@@ -12,12 +12,13 @@ use crate::run::run_command;
 use denial_program::{DenialFault, ParamFlags, ZoneName, apex_of};
 use domain_base::ToName;
 use domain_hasher::Nsec3Hasher;
+use domain_includes::FileSource;
 use domain_octets::OutOfMemory;
 use judge_program::judged_apex;
 use lint_program::{Outcome, linted_zone};
 use std::alloc::Global;
 use std::io::Write;
-use zone_program::{ZoneFault, numbered_lines};
+use zone_program::{ZoneFault, ZoneLines, zone_lines};
 
 /// Returns the apex that the arguments of one of the specification's commands name.
 fn denied_apex(alloc: Global, words: &[String]) -> Result<ZoneName, CommandFault>
@@ -102,42 +103,83 @@ fn leaves_out(words: &[String]) -> bool
     }
 }
 
+/// What a run over a zone file found.
+#[derive(Drop)]
+pub struct ZoneRun {
+    /// What `lint` found, and `Clean` for any other command.
+    pub outcome: Outcome,
+    /// The lines over which the command ran, with the places of their records.
+    pub lines: ZoneLines,
+}
+
+/// Returns the lines of the records of a zone file, over which the command runs.
+fn lines_for<F: FileSource>(
+    alloc: Global,
+    words: &[String],
+    files: &F,
+    path: &[u8],
+    file: &[u8],
+) -> Result<ZoneLines, ZoneRunFault>
+    ensures ok { IfOk result (AreLinesFor (F.gives files.now) path.now (map string_bytes words.now)
+        file.now) }
+    ensures err { IfErr result (HaveNoLines (F.gives files.now) path.now
+        (map string_bytes words.now) file.now) }
+{
+    let apex = match apex_of_command(alloc, words) {
+        Ok(apex) => apex,
+        Err(fault) => return Err(ZoneRunFault::Command(fault)),
+    };
+    match zone_lines(
+        alloc,
+        files,
+        path,
+        &apex.as_parsed(),
+        file,
+        leaves_out(words),
+    ) {
+        Ok(lines) => Ok(lines),
+        Err(fault) => Err(ZoneRunFault::File(fault)),
+    }
+}
+
 /// Runs a command over the records of a zone file, whose names are relative to the apex that the
-/// arguments name. The words are those without `--zone FILE`. It is `run_command` over the lines of
-/// `numbered_lines`, so the number of a line is that of the file. For `nsec`, `nsec3` and `lint`
-/// the records that a signer adds are left out. The NSEC3PARAM record that `nsec3` writes has flags
-/// 0.
+/// arguments name, and of the files that it includes. The path is that of the file, or empty: paths
+/// of included files are relative to its folder. The words are those without `--zone FILE`. It is
+/// `run_command` over the lines of `zone_lines`. For `nsec`, `nsec3` and `lint` the records that a
+/// signer adds are left out. The NSEC3PARAM record that `nsec3` writes has flags 0.
+///
+/// What names the number of a line, a fault or the report of `lint`, means one of these lines. They
+/// are returned, in the error too, with the place of each record.
 ///
 /// # Errors
 ///
 /// The first of these that applies:
 ///
 /// - `Command` with `Usage` if the arguments are no command that reads records;
-/// - `File` with the first fault of the file;
-/// - `Command` with the faults of `run_command` over the lines.
+/// - `File` with the first fault of the file, or of a file that it includes;
+/// - `Records` with the faults of `run_command` over the lines.
 ///
-/// `OutOfMemory` may come at any time, as a fault of either.
-pub fn run_over_zone<W: Write, H: Nsec3Hasher>(
+/// `OutOfMemory` may come at any time, as a fault of each.
+pub fn run_over_zone<F: FileSource, W: Write, H: Nsec3Hasher>(
     alloc: Global,
     words: &[String],
+    files: &F,
+    path: &[u8],
     file: &[u8],
     hasher: &H,
     output: &mut W,
-) -> Result<Outcome, ZoneRunFault>
-    ensures { RunsOverZone (map string_bytes words.now) file.now (H.answer hasher.now)
-        (W.contents output.old) (W.contents output.new) output.old output.new result }
+) -> Result<ZoneRun, ZoneRunFault>
+    ensures { RunsOverZone (F.gives files.now) path.now (map string_bytes words.now) file.now
+        (H.answer hasher.now) (W.contents output.old) (W.contents output.new) output.old output.new
+        result }
 {
-    let apex = match apex_of_command(alloc, words) {
-        Ok(apex) => apex,
-        Err(fault) => return Err(ZoneRunFault::Command(fault)),
-    };
-    let lines = match numbered_lines(alloc, &apex.as_parsed(), file, leaves_out(words)) {
+    let lines = match lines_for(alloc, words, files, path, file) {
         Ok(lines) => lines,
-        Err(fault) => return Err(ZoneRunFault::File(fault)),
+        Err(fault) => return Err(fault),
     };
-    let mut input = lines.as_bytes();
-    match run_command(alloc, words, ParamFlags::Zero, hasher, &mut input, output) {
-        Ok(outcome) => Ok(outcome),
-        Err(fault) => Err(ZoneRunFault::Command(fault)),
+    let (flags, mut input) = (ParamFlags::Zero, lines.text().as_bytes());
+    match run_command(alloc, words, flags, hasher, files, path, &mut input, output) {
+        Ok(outcome) => Ok(ZoneRun { outcome, lines }),
+        Err(fault) => Err(ZoneRunFault::Records(fault, lines)),
     }
 }

@@ -1,13 +1,13 @@
 -- The first fault of a zone file and of the files that it includes, with its file and place.
-use Rattle.std.specs.Prelude.{◌≡◌, ◌<◌, ◌-◌, ℕ, List, [], ◌∷◌, Option, Some, None, Vec, unwrap_or}
+use Rattle.std.specs.Prelude.{◌≡◌, ◌<◌, ◌-◌, ℕ, List, [], Option, Some, None, Vec, unwrap_or}
 use Rattle.domain_octets.specs.Octets.{Octets}
 use Rattle.domain_names.specs.Name.{Name}
 use Rattle.domain_zonefile.specs.{Entries.{Piece, Item, items_from}, Files.ReadsItem, Places.{place_in, without_mark}}
-use Rattle.domain_zonefile.specs.{Records.{FileRecord, State, start_state, state_after_file}, Tokens.token_place}
+use Rattle.domain_zonefile.specs.{Records.{State, start_state, state_after_file}, Tokens.token_place}
 use Rattle.domain_zonefile.specs.declared.{place.Place.Place, zone_reader.ZoneItem.ZoneItem}
 use Rattle.domain_zonefile.specs.declared.zone_reader.ZoneItem.TheVariants as zone_items
-use Rattle.domain_includes.specs.Files.{Contents, FileRecords, IsNextInclude, IsNextRecordOfFiles, max_depth}
-use Rattle.domain_includes.specs.declared.fault.{FileFaultKind.FileFaultKind, FileFault.FileFault, FilesFault.{FilesFault, TheVariants.{File, OutOfMemory}}}
+use Rattle.domain_includes.specs.Files.{Contents, FileRecords, IsNextInclude, IsNextRecordOfFiles, PlacedRecord, max_depth}
+use Rattle.domain_includes.specs.declared.fault.{FileFaultKind.FileFaultKind, FilesFault.{FilesFault, TheVariants.{File, OutOfMemory}}}
 use Rattle.domain_includes.specs.declared.fault.FileFaultKind.TheVariants.{Syntax, Entry, Unreadable, TooDeep, Generate}
 
 -- the fault of an item of a file, with its place
@@ -51,8 +51,8 @@ pub data FirstFaultOfFiles (gives : Contents) (place : Place) (kind : FileFaultK
       → IsNextInclude path s left inner start pieces after rest
       → IsNotIncluded gives depth inner kind → place ≡ place_in file (token_place pieces 1)
       → FirstFaultOfFiles gives place kind depth path file s left None
-  after_record : (depth : ℕ) (path file : Octets) (s : State) (left : List Item) (r : FileRecord)
-      (after : State) (rest : List Item) (which : Option Octets) → IsNextRecordOfFiles s left r after rest
+  after_record : (depth : ℕ) (path file : Octets) (s : State) (left : List Item) (r : PlacedRecord)
+      (after : State) (rest : List Item) (which : Option Octets) → IsNextRecordOfFiles path file s left r after rest
       → FirstFaultOfFiles gives place kind depth path file after rest which
       → FirstFaultOfFiles gives place kind depth path file s left which
   in_included : (depth : ℕ) (path file : Octets) (s : State) (left : List Item) (inner : Octets)
@@ -64,10 +64,11 @@ pub data FirstFaultOfFiles (gives : Contents) (place : Place) (kind : FileFaultK
       → FirstFaultOfFiles gives place kind depth path file s left (Some (unwrap_or which inner))
   after_included : (depth : ℕ) (path file : Octets) (s : State) (left : List Item)
       (inner : Octets) (start : State) (pieces : List Piece) (after : State) (rest : List Item)
-      (octets : Octets) (records : List FileRecord) (last : State) (which : Option Octets)
+      (octets : Octets) (records : List PlacedRecord) (last : State) (which : Option Octets)
       → IsNextInclude path s left inner start pieces after rest → 0 < depth
       → gives inner (Some octets)
-      → FileRecords gives (depth - 1) inner start (items_from (without_mark octets) 0) records last
+      → FileRecords gives (depth - 1) inner (without_mark octets) start
+      (items_from (without_mark octets) 0) records last
       → FirstFaultOfFiles gives place kind depth path file (state_after_file after last) rest which
       → FirstFaultOfFiles gives place kind depth path file s left which
 

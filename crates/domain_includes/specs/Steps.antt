@@ -1,34 +1,35 @@
 -- What the code returns for an item of a file.
-use Rattle.std.specs.Prelude.{◌≡◌, ℕ, List, [], Option, Some, None, unwrap_or}
+use Rattle.std.specs.Prelude.{◌≡◌, List, [], Some, None, unwrap_or}
 use Rattle.domain_octets.specs.Octets.{Octets}
 use Rattle.domain_names.specs.Name.{Name}
-use Rattle.domain_zonefile.specs.{Entries.{Piece, Item}, Files.ReadsItem, Places.place_in, Records.{FileRecord, State, record_with}, Tokens.token_place}
+use Rattle.domain_zonefile.specs.{Entries.{Piece, Item}, Files.ReadsItem, Places.place_in, Records.{State, record_with}, Tokens.token_place}
 use Rattle.domain_zonefile.specs.declared.{state.RecordFields.RecordFields, zone_reader.ZoneItem.ZoneItem}
 use Rattle.domain_zonefile.specs.declared.zone_reader.ZoneItem.TheVariants as zone_items
-use Rattle.domain_includes.specs.Files.{Contents, IsNextRecordOfFiles}
+use Rattle.domain_includes.specs.Files.{Contents, IsNextRecordOfFiles, PlacedRecord, record_at}
 use Rattle.domain_includes.specs.FileFaults.{FilesItemFault, IsNextFaultOfFiles, path_octets}
 use Rattle.domain_includes.specs.declared.{step.Step.{Step, TheVariants.{End, Record, Include}}}
-use Rattle.domain_includes.specs.declared.fault.{FileFaultKind.{FileFaultKind, TheVariants.Unreadable}, FileFault.FileFault}
+use Rattle.domain_includes.specs.declared.fault.{FileFaultKind.{FileFaultKind, TheVariants.Unreadable}}
 use Rattle.domain_includes.specs.declared.fault.FilesFault.{FilesFault, TheVariants.{File, OutOfMemory}}
 
 -- a last owner is known
 abbrev pub IsOwned : State → Type 0
 IsOwned s = (owner : Name) × (s.owner ≡ Some owner)
 
--- a sink took the record of the last owner with these fields and octets of data
-abbrev pub TakesRecord : {S : Type 0} → (S → FileRecord → S → Type 0) → State → RecordFields → Octets
-    → S → S → Type 0
-TakesRecord takes s fields octets old new =
-    (owner : Name) × (s.owner ≡ Some owner) × takes old (record_with owner fields octets) new
+-- a sink took the record of the last owner with these tokens, fields and octets of data
+abbrev pub TakesRecord : {S : Type 0} → (S → PlacedRecord → S → Type 0) → Octets → Octets → State
+    → List Piece → RecordFields → Octets → S → S → Type 0
+TakesRecord takes path file s pieces fields octets old new =
+    (owner : Name) × (s.owner ≡ Some owner)
+    × takes old (record_at path (place_in file (token_place pieces 0)) (record_with owner fields octets)) new
 
--- the next item was read, and a record was passed to a sink
-abbrev pub IsFileStep : {S : Type 0} → (S → FileRecord → S → Type 0) → State → List Item → S → Step
-    → State → List Piece → List Item → S → Type 0
-IsFileStep takes s left old End after pieces rest new =
+-- the next item of the file at a path was read, and a record was passed to a sink
+abbrev pub IsFileStep : {S : Type 0} → (S → PlacedRecord → S → Type 0) → Octets → Octets → State
+    → List Item → S → Step → State → List Piece → List Item → S → Type 0
+IsFileStep takes path file s left old End after pieces rest new =
     ReadsItem s left [] None after pieces rest [] × (new ≡ old)
-IsFileStep takes s left old Record after pieces rest new =
-    (r : FileRecord) × IsNextRecordOfFiles s left r after rest × takes old r new
-IsFileStep takes s left old (Include origin) after pieces rest new =
+IsFileStep takes path file s left old Record after pieces rest new =
+    (r : PlacedRecord) × IsNextRecordOfFiles path file s left r after rest × takes old r new
+IsFileStep takes path file s left old (Include origin) after pieces rest new =
     (octets : Octets)
     × ReadsItem s left [] (Some (zone_items.Include origin)) after pieces rest octets × (new ≡ old)
 

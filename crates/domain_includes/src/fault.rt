@@ -76,22 +76,26 @@ pub(crate) fn in_file(path: Vec<u8>, fault: FilesFault) -> FilesFault
     }
 }
 
-/// Writes a path. Octets that are no printable ASCII are written as a backslash and three digits.
-fn write_path<W: fmt::Write>(f: &mut fmt::Formatter<W>, path: &[u8]) -> fmt::Result {
-    for octet in path {
-        match octet {
-            b' '..=b'~' => f.write_char(char::from(*octet))?,
-            _ => write!(f, "\\{octet:03}")?,
+/// A path as text. Octets that are no printable ASCII are printed as a backslash and three digits.
+#[derive(Clone, Copy, Debug)]
+pub struct PathText<'a>(pub &'a [u8]);
+
+impl fmt::Display for PathText<'_> {
+    fn fmt<W: fmt::Write>(&self, f: &mut fmt::Formatter<W>) -> fmt::Result {
+        for octet in self.0 {
+            match octet {
+                b' '..=b'~' => f.write_char(char::from(*octet))?,
+                _ => write!(f, "\\{octet:03}")?,
+            }
         }
+        Ok(())
     }
-    Ok(())
 }
 
 impl fmt::Display for FileFault {
     fn fmt<W: fmt::Write>(&self, f: &mut fmt::Formatter<W>) -> fmt::Result {
         if let Some(path) = &self.path {
-            write_path(f, path.as_slice())?;
-            f.write_str(":")?;
+            write!(f, "{}:", PathText(path.as_slice()))?;
         }
         write!(
             f,
@@ -107,8 +111,7 @@ impl fmt::Display for FileFaultKind {
             FileFaultKind::Syntax(error) => write!(f, "{error}"),
             FileFaultKind::Entry(kind) => write!(f, "{kind}"),
             FileFaultKind::Unreadable(path) => {
-                f.write_str("cannot read ")?;
-                write_path(f, path.as_slice())
+                write!(f, "cannot read {}", PathText(path.as_slice()))
             }
             FileFaultKind::TooDeep => f.write_str("more than 10 files within each other"),
             FileFaultKind::Generate => f.write_str("$GENERATE is not read"),

@@ -1,11 +1,12 @@
 //! Where included files come from, and where records go.
 ghost use Rattle.std.specs.Prelude.{◌≡◌, ◌≤◌, length, IfOk, OnOk, Option, Some, None};
 ghost use Rattle.domain_octets.specs.Octets.{Octets};
-ghost use Rattle.domain_zonefile.specs.Records.{FileRecord, record_with};
+ghost use Rattle.domain_zonefile.specs.Records.{record_with};
+ghost use Rattle.domain_includes.specs.Files.{PlacedRecord, record_at};
 
 use domain_base::ParsedName;
 use domain_octets::OutOfMemory;
-use domain_zonefile::RecordFields;
+use domain_zonefile::{Place, RecordFields};
 use std::alloc::Global;
 
 /// The reason why a file was not read.
@@ -37,20 +38,23 @@ pub trait FileSource {
 /// A sink of records.
 pub trait RecordSink {
     /// Whether the sink is this after it took a record.
-    ghost takes: { Self → FileRecord → Self → Type 0 };
+    ghost takes: { Self → PlacedRecord → Self → Type 0 };
 
-    /// Takes a record: its owner, its numbers, and the octets of its data.
+    /// Takes a record: the path of its file, the place of its first token there, its owner, its
+    /// numbers, and the octets of its data.
     ///
     /// # Errors
     ///
     /// `OutOfMemory` if there is no memory for it.
     fn take(
         &mut self,
+        path: &[u8],
+        place: Place,
         owner: &ParsedName<'_>,
         fields: RecordFields,
         octets: &[u8],
     ) -> Result<(), OutOfMemory>
         requires { length octets.now ≤ 65535 }
-        ensures { OnOk result (takes self.old (record_with owner.now fields octets.now)
-            self.new) };
+        ensures { OnOk result (takes self.old (record_at path.now place
+            (record_with owner.now fields octets.now)) self.new) };
 }

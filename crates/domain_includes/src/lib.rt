@@ -18,6 +18,6 @@ mod step;
 #[cfg(test)]
 mod tests;
 
-pub use fault::{FileFault, FileFaultKind, FilesFault};
+pub use fault::{FileFault, FileFaultKind, FilesFault, PathText};
 pub use files::{FileSource, RecordSink, SourceError};
 pub use reader::{MAX_DEPTH, read_files};

@@ -66,13 +66,13 @@ fn read_file<F: FileSource, S: RecordSink>(
     sink: &mut S,
 ) -> Result<(), FilesFault>
     ensures ok { OnOk result (PassesRecords (F.gives files.now) S.takes depth path.now
-        reader.old.state reader.old.left sink.old reader.new.state sink.new) }
+        reader.old.file reader.old.state reader.old.left sink.old reader.new.state sink.new) }
     ensures err { IfErr result (IsFilesFault (F.gives files.now) depth path.now reader.old.file
         reader.old.state reader.old.left) }
 {
     let mut data = Vec::new(alloc);
     'items: loop {
-        let origin = match next_step(alloc, reader, &mut data, sink) {
+        let origin = match next_step(alloc, path, reader, &mut data, sink) {
             Ok(Step::End) => return Ok(()),
             Ok(Step::Record) => continue 'items,
             Ok(Step::Include(origin)) => origin,

@@ -37,33 +37,37 @@ fn fault_of_entry(reader: &mut ZoneReader<'_>, fault: EntryFault) -> FilesFault
     }
 }
 
-/// Passes the record that was read last to the sink.
+/// Passes the record that was read last, of the file at a path, to the sink.
 fn take_record<S: RecordSink>(
-    reader: &ZoneReader<'_>,
+    path: &[u8],
+    reader: &mut ZoneReader<'_>,
     fields: RecordFields,
     octets: &[u8],
     sink: &mut S,
 ) -> Result<(), OutOfMemory>
     requires fits { length octets.now ≤ 65535 }
-    requires owned { IsOwned reader.now.state }
-    ensures { OnOk result (TakesRecord S.takes reader.now.state fields octets.now sink.old
-        sink.new) }
+    requires owned { IsOwned reader.old.state }
+    ensures taken { OnOk result (TakesRecord S.takes path.now reader.old.file reader.old.state
+        reader.old.tokens fields octets.now sink.old sink.new) }
+    ensures same { reader.new ≡ reader.old }
 {
+    let place = reader.place_of_token(0);
     match reader.state().owner() {
-        Some(owner) => sink.take(&owner, fields, octets),
+        Some(owner) => sink.take(path, place, &owner, fields, octets),
         None => unreachable!(),
     }
 }
 
-/// Reads the next item of a file, and passes a record to the sink.
+/// Reads the next item of the file at a path, and passes a record to the sink.
 pub(crate) fn next_step<S: RecordSink>(
     alloc: Global,
+    path: &[u8],
     reader: &mut ZoneReader<'_>,
     data: &mut Vec<u8>,
     sink: &mut S,
 ) -> Result<Step, FilesFault>
-    ensures ok { IfOk result (λ step. IsFileStep S.takes reader.old.state reader.old.left sink.old
-        step reader.new.state reader.new.tokens reader.new.left sink.new) }
+    ensures ok { IfOk result (λ step. IsFileStep S.takes path.now reader.old.file reader.old.state
+        reader.old.left sink.old step reader.new.state reader.new.tokens reader.new.left sink.new) }
     ensures err { IfErr result (IsStepFault reader.old.file reader.old.state reader.old.left) }
     ensures file { reader.new.file ≡ reader.old.file }
 {
@@ -75,7 +79,7 @@ pub(crate) fn next_step<S: RecordSink>(
     };
     let (place, kind) = match item {
         ZoneItem::Record(fields) => {
-            return match take_record(reader, fields, data.as_slice(), sink) {
+            return match take_record(path, reader, fields, data.as_slice(), sink) {
                 Ok(()) => Ok(Step::Record),
                 Err(OutOfMemory) => Err(FilesFault::OutOfMemory),
             };

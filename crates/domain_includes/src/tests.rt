@@ -5,7 +5,7 @@ ghost use Rattle.std.specs.Prelude.{Option};
 use crate::{FileSource, FilesFault, RecordSink, SourceError, read_files};
 use domain_base::{Name, ParsedName, ToName};
 use domain_octets::{OutOfMemory, SmallOctets};
-use domain_zonefile::RecordFields;
+use domain_zonefile::{Place, RecordFields};
 use std::alloc::Global;
 use std::fmt::Write;
 use std::process::Abort;
@@ -34,7 +34,8 @@ impl FileSource for Memory<'_> {
     }
 }
 
-/// Records as text: a line for each, with its owner, TTL, class, type and data in Base 16.
+/// Records as text: a line for each, with its file and line, its owner, TTL, class, type, and its
+/// data in Base 16.
 #[derive(Drop)]
 struct Listed {
     text: String,
@@ -45,11 +46,17 @@ impl RecordSink for Listed {
 
     fn take(
         &mut self,
+        path: &[u8],
+        place: Place,
         owner: &ParsedName<'_>,
         fields: RecordFields,
         octets: &[u8],
     ) -> Result<(), OutOfMemory> {
         let rtype = fields.rtype.to_int();
+        for octet in path {
+            self.text.push(char::from(*octet))?;
+        }
+        write!(self.text, ":{} ", place.line)?;
         write!(
             self.text,
             "{owner} {} {} {rtype} ",
@@ -100,19 +107,20 @@ fn included_records(rt: HostRuntime) -> Result<(), Fail> {
             (
                 b"$TTL 1h\nns A 192.0.2.1\n$INCLUDE sub/one.inc one\n \
                   TXT \"back\"\nafter A 192.0.2.8\n",
-                "ns.example 3600 1 1 c0000201\n\
-                 ns.example 3600 1 28 00000000000000000000000000000002\n\
-                 www.one.example 60 1 1 c0000203\n\
-                 www.one.example 7200 1 28 00000000000000000000000000000007\n\
-                 two.deep.one.example 7200 1 1 c0000204\n\
-                 deep.one.example 10800 1 1 c0000205\n\
-                 deep.one.example 10800 1 28 00000000000000000000000000000006\n\
-                 ns.example 10800 1 16 046261636b\n\
-                 after.example 10800 1 1 c0000208\n",
+                ":2 ns.example 3600 1 1 c0000201\n\
+                 sub/one.inc:1 ns.example 3600 1 28 00000000000000000000000000000002\n\
+                 sub/one.inc:2 www.one.example 60 1 1 c0000203\n\
+                 sub/two.inc:1 www.one.example 7200 1 28 00000000000000000000000000000007\n\
+                 sub/two.inc:2 two.deep.one.example 7200 1 1 c0000204\n\
+                 sub/one.inc:6 deep.one.example 10800 1 1 c0000205\n\
+                 sub/one.inc:7 deep.one.example 10800 1 28 00000000000000000000000000000006\n\
+                 :4 ns.example 10800 1 16 046261636b\n\
+                 :5 after.example 10800 1 1 c0000208\n",
             ),
             (
                 b"a 9 A 192.0.2.3\n$INCLUDE last.inc\nns A 192.0.2.1\n",
-                "a.example 9 1 1 c0000203\nx.example 77 1 1 c0000202\nns.example 77 1 1 c0000201\n",
+                ":1 a.example 9 1 1 c0000203\nlast.inc:1 x.example 77 1 1 c0000202\n\
+                 :3 ns.example 77 1 1 c0000201\n",
             ),
         ],
         &[
@@ -139,7 +147,10 @@ fn faults(rt: HostRuntime) -> Result<(), Fail> {
             (b"$INCLUDE none", "1:10: cannot read none"),
             (b"\n$INCLUDE a/1\n", "a/1:2:10: cannot read a/2"),
             (b"$INCLUDE /b/1 . ; x", "/b/1:1:3: bracket is never closed"),
-            (b"$INCLUDE c", "x.example 1 1 1 c0000201\nd:2:3: not a type"),
+            (
+                b"$INCLUDE c",
+                "d:1 x.example 1 1 1 c0000201\nd:2:3: not a type",
+            ),
             (b"$INCLUDE", "1:1: an argument is missing"),
             (
                 b"$INCLUDE e",

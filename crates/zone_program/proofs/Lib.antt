@@ -1,2 +1,3 @@
 pub mod LineLemmas
-pub mod NumberedLemmas
+pub mod PlaceLemmas
+pub mod SinkLemmas

@@ -1,4 +1,5 @@
 pub mod Lines
-pub mod Numbered
+pub mod Places
 pub mod Run
+pub mod Sink
 pub mod Status

@@ -9,6 +9,7 @@ ghost use Rattle.zone_program.specs.Run.{AsksForZone, IsNoApex, IsNoCommandFor, 
 use crate::fault::ZoneFault;
 use crate::lines::zone_lines;
 use domain_base::{Name, ScanError, ToName};
+use domain_includes::FileSource;
 use domain_octets::SmallOctets;
 use std::alloc::Global;
 use std::io;
@@ -62,28 +63,33 @@ fn read_words(alloc: Global, words: &[String]) -> Result<(Name<SmallOctets>, boo
     }
 }
 
-/// Reads a zone file whose names are relative to an apex, and writes its records, one a line.
+/// Reads a zone file whose names are relative to an apex, and the files that it includes. Writes
+/// their records, one a line. The path is that of the file, or empty: paths of included files are
+/// relative to its folder.
 ///
 /// # Errors
 ///
 /// - `Usage` if the arguments are not an apex, or an apex and the word `unsigned`, which leaves out
 ///   the records of a signer;
 /// - `Read` if the input could not be read;
-/// - `File` with the first fault of the file;
+/// - `File` with the first fault of these files;
 /// - `Write` if the output could not be written;
 /// - `OutOfMemory`, at any time.
 ///
 /// Before any error but `Write` and `OutOfMemory`, nothing is written.
-pub fn run_zone<R: Read, W: Write>(
+pub fn run_zone<F: FileSource, R: Read, W: Write>(
     alloc: Global,
     words: &[String],
+    files: &F,
+    path: &[u8],
     input: &mut R,
     output: &mut W,
 ) -> Result<(), ZoneFault>
     ensures ok { OnOk result (IfSome (R.remaining input.old) (λ file. (text : Octets)
-        × LinesOfRun (map string_bytes words.now) file text
+        × LinesOfRun (F.gives files.now) path.now (map string_bytes words.now) file text
         × Appends (W.contents output.old) (W.contents output.new) text)) }
-    ensures err { IfErr result (NoRun (map string_bytes words.now) (R.remaining input.old)) }
+    ensures err { IfErr result (NoRun (F.gives files.now) path.now (map string_bytes words.now)
+        (R.remaining input.old)) }
     ensures untouched { IfErr result (λ e. IsBeforeWriting e → output.new ≡ output.old) }
 {
     let (apex, is_unsigned) = match read_words(alloc, words) {
@@ -94,11 +100,12 @@ pub fn run_zone<R: Read, W: Write>(
     if let Err(e) = input.read_to_end(&mut file) {
         return Err(fault_of(&e, ZoneFault::Read));
     }
-    let text = match zone_lines(alloc, &apex.as_parsed(), file.as_slice(), is_unsigned) {
-        Ok(text) => text,
+    let octets = file.as_slice();
+    let lines = match zone_lines(alloc, files, path, &apex.as_parsed(), octets, is_unsigned) {
+        Ok(lines) => lines,
         Err(fault) => return Err(fault),
     };
-    write_text(text.as_str(), output)
+    write_text(lines.text(), output)
 }
 
 /// Writes a text.

@@ -1,6 +1,7 @@
 use Rattle.std.proofs.Common.{[], None, refl, subst}
-use Rattle.domain_zonefile.specs.{Files.ReadsItem, Records.record_with}
+use Rattle.domain_zonefile.specs.{Files.ReadsItem, Places.place_in, Records.record_with, Tokens.token_place}
 use Rattle.domain_zonefile.proofs.FileLemmas.{reads_none, reads_record}
+use Rattle.domain_includes.specs.Files.{record_at}
 use Rattle.domain_includes.proofs.step.next_step.Goals as goal
 
 pub returns-in-Ok-None-clause-ok : goal.returns-in-Ok-None-clause-ok
@@ -27,8 +28,10 @@ take_record-requires-clause-owned g c =
 pub returns-in-Ok-clause-ok : goal.returns-in-Ok-clause-ok
 returns-in-Ok-clause-ok g c =
     let read = rw (c.in-Ok-Some.field-0-is, c.in-Record.is, c.clear.ensures.items) at c.in-Ok-Some.ensures.found in
-    let put = rw c.as_slice.ensures.value at c.in-Ok.ensures in (
-      record_with put.0 c.in-Record.fields c.next_item.new.data.items,
+    let put = rw (c.as_slice.ensures.value, c.next_item.ensures.file) at c.in-Ok.ensures.taken in
+    rw c.in-Ok.ensures.same (
+      record_at c.args.path.now (place_in c.args.reader.now.file (token_place c.next_item.new.self.tokens 0))
+          (record_with put.0 c.in-Record.fields c.next_item.new.data.items),
       record {
         fields = c.in-Record.fields;
         owner = put.0;
