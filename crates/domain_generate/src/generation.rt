@@ -1,5 +1,5 @@
 //! An entry `$GENERATE`, and the text of each of its values.
-ghost use Rattle.std.specs.Prelude.{◌≡◌, ◌++◌, ◌≤◌, [], Ok, Err, drop, map, IfSome, IfOk, IfErr, OnOk, OnErr};
+ghost use Rattle.std.specs.Prelude.{◌≡◌, ◌++◌, ◌≤◌, ◌<◌, [], Ok, Err, drop, map, IfSome, IfOk, IfErr, OnOk, OnErr};
 ghost use Rattle.domain_types.specs.Reading.{token_text};
 ghost use Rattle.domain_generate.specs.Ranges.{IsRange, value_at, value_count};
 ghost use Rattle.domain_generate.specs.Generated.{argument_at, checked_values, class_text_of, data_argument, fault_of_more, fault_of_pattern, fields_text, generated_line};
@@ -238,7 +238,8 @@ impl<'a> Generation<'a> {
 
     /// Returns the value of this number, counted from 0, if there are so many.
     pub fn value(&self, index: u32) -> Option<u32>
-        ensures { result ≡ value_at self.now.range index }
+        ensures value { result ≡ value_at self.now.range index }
+        ensures few { IfSome result (λ _. index < 65536) }
     {
         value_at(self.range, index)
     }

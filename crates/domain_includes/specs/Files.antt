@@ -1,13 +1,14 @@
 -- What a zone file means with the files that it includes: the records of all, in order (RFC 1035,
 -- section 5.1).
-use Rattle.std.specs.Prelude.{◌≡◌, ◌<◌, ◌-◌, ◌++◌, ℕ, List, [], ◌∷◌, Option, Some, None}
+use Rattle.std.specs.Prelude.{◌≡◌, ◌<◌, ◌-◌, ◌++◌, ℕ, List, [], ◌∷◌, Option, Some, None, Ok, map}
 use Rattle.domain_octets.specs.Octets.{Octets}
 use Rattle.domain_names.specs.Name.{Name}
-use Rattle.domain_zonefile.specs.{Entries.{Piece, Item, items_from}, Files.ReadsItem, Places.without_mark}
+use Rattle.domain_zonefile.specs.{Entries.{Piece, Item, items_from}, Files.ReadsItem, Places.without_mark, Tokens.piece_view}
 use Rattle.domain_zonefile.specs.Records.{FileRecord, State, included_state, record_with, start_state, state_after_file}
 use Rattle.domain_zonefile.specs.declared.{state.RecordFields.RecordFields}
 use Rattle.domain_zonefile.specs.declared.zone_reader.ZoneItem.TheVariants as zone_items
-use Rattle.domain_includes.specs.Paths.{included_name, included_path}
+use Rattle.domain_generate.specs.Generated.{Generated, generation_of}
+use Rattle.domain_includes.specs.{GeneratedLines.GeneratedRecords, Paths.{included_name, included_path}}
 
 -- what reading of a path may give: the octets of a file, or None if there is none to read
 abbrev pub Contents : Type 1
@@ -34,8 +35,17 @@ pub record IsNextInclude (path : Octets) (s : State) (left : List Item) (inner :
   pub path_is : inner ≡ included_path path (included_name pieces)
   pub start_is : start ≡ included_state after origin
 
+-- the next item is $GENERATE, with tokens that say this
+pub record IsNextGenerate (s : State) (left : List Item) (g : Generated) (after : State)
+    (rest : List Item) : Type 0 where
+  pub octets : Octets
+  pub pieces : List Piece
+  pub reads : ReadsItem s left [] (Some zone_items.Generate) after pieces rest octets
+  pub means : generation_of (map piece_view pieces) ≡ Ok g
+
 -- the records of what is left of the file at a path, and what is known at its end. An included file
--- gives its records where it is included. At most `depth` files are included within each other
+-- gives its records where it is included, and $GENERATE those of its values. At most `depth` files
+-- are included within each other
 pub data FileRecords (gives : Contents) : ℕ → Octets → State → List Item → List FileRecord
     → State → Type 0 where
   no_record : (depth : ℕ) (path : Octets) (s : State) (left : List Item) (end : State)
@@ -51,6 +61,12 @@ pub data FileRecords (gives : Contents) : ℕ → Octets → State → List Item
       → IsNextInclude path s left inner start pieces after rest → 0 < depth
       → gives inner (Some file)
       → FileRecords gives (depth - 1) inner start (items_from (without_mark file) 0) records last
+      → FileRecords gives depth path (state_after_file after last) rest more end
+      → FileRecords gives depth path s left (records ++ more) end
+  generated : (depth : ℕ) (path : Octets) (s : State) (left : List Item) (g : Generated)
+      (after : State) (rest : List Item) (records : List FileRecord) (last : State)
+      (more : List FileRecord) (end : State) → IsNextGenerate s left g after rest
+      → GeneratedRecords g 0 after records last
       → FileRecords gives depth path (state_after_file after last) rest more end
       → FileRecords gives depth path s left (records ++ more) end
 

@@ -1,5 +1,5 @@
 -- The paths of included files.
-use Rattle.std.specs.Prelude.{ℕ, ◌-◌, ◌==◌, ◌++◌, Bool, false, not, List, [], ◌∷◌, Option, Some, None, length, map, take, if◌then◌else◌}
+use Rattle.std.specs.Prelude.{ℕ, ◌-◌, ◌==◌, ◌++◌, Bool, false, not, List, [], ◌∷◌, length, map, take, if◌then◌else◌}
 use Rattle.std.specs.List.{suffix_len}
 use Rattle.domain_octets.specs.{Octets.Octets, Text.slash}
 use Rattle.domain_types.specs.Reading.{TokenText}

@@ -1,4 +1,4 @@
-use Rattle.std.proofs.Common.{arith, rules, ◌≡◌, ◌∙◌, ◌-◌, ◌≤◌, ◌<◌, ℕ, List, length, sym, ap, take, false, true, get_or, refl}
+use Rattle.std.proofs.Common.{arith, ◌≡◌, ◌-◌, ◌≤◌, ◌<◌, ℕ, length, ap, take, false, true, get_or, refl}
 use Rattle.std.specs.Prelude.{not}
 use Rattle.std.specs.List.{suffix_len}
 use Rattle.std.proofs.lemmas.List.Sums.{suffix_len_is}

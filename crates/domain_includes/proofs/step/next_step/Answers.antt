@@ -22,12 +22,12 @@ pub take_record-requires-clause-owned : goal.take_record-requires-clause-owned
 take_record-requires-clause-owned g c =
     let read = rw (c.in-Ok-Some.field-0-is, c.in-Record.is, c.clear.ensures.items) at c.in-Ok-Some.ensures.found in
     let own = reads_record _ _ _ c.in-Record.fields _ _ _ _ read in
-    (own.owner, own.owner_is)
+    (own.owner, rw c.state.ensures own.owner_is)
 
 pub returns-in-Ok-clause-ok : goal.returns-in-Ok-clause-ok
 returns-in-Ok-clause-ok g c =
     let read = rw (c.in-Ok-Some.field-0-is, c.in-Record.is, c.clear.ensures.items) at c.in-Ok-Some.ensures.found in
-    let put = rw c.as_slice.ensures.value at c.in-Ok.ensures in (
+    let put = rw (c.as_slice.ensures.value, c.state.ensures) at c.in-Ok.ensures in (
       record_with put.0 c.in-Record.fields c.next_item.new.data.items,
       record {
         fields = c.in-Record.fields;
