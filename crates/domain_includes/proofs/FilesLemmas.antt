@@ -1,5 +1,5 @@
 -- The records of a zone file and of the files that it includes, and their first fault.
-use Rattle.std.proofs.Common.{◌≡◌, ◌<◌, ◌-◌, ◌++◌, ◌∷◌, ℕ, List, [], length, refl, sym, subst, Option, Some, None}
+use Rattle.std.proofs.Common.{◌≡◌, ◌<◌, ◌-◌, ◌++◌, ◌∷◌, ℕ, List, [], length, map, refl, sym, subst, Option, Some, None}
 use Rattle.std.proofs.lemmas.List.{append_assoc, append-nil}
 use Rattle.domain_octets.specs.Octets.{Octets}
 use Rattle.domain_names.specs.Name.{Name}
@@ -8,12 +8,12 @@ use Rattle.domain_zonefile.specs.Records.{State, included_state, state_after_fil
 use Rattle.domain_zonefile.specs.declared.{place.Place.Place}
 use Rattle.domain_zonefile.proofs.FileLemmas.{reads_less}
 use Rattle.domain_includes.specs.Paths.{included_name, included_path}
-use Rattle.domain_includes.specs.Files.{Contents, FileRecords, IsNextInclude, IsNextRecordOfFiles, PassesRecords, PlacedRecord, TakesAll}
-use Rattle.domain_includes.specs.Files.{no_record, one_record, included, took_none, took_one}
+use Rattle.domain_includes.specs.Files.{Contents, FileRecords, IsNextGenerate, IsNextInclude, IsNextRecordOfFiles, PassesRecords, PlacedRecord, TakesAll}
+use Rattle.domain_includes.specs.Files.{generated, no_record, one_record, included, record_at, took_none, took_one}
 use Rattle.domain_includes.specs.FileFaults.{FirstFaultOfFiles, IsFilesFault, IsNotIncluded, path_octets}
-use Rattle.domain_includes.specs.FileFaults.{at_once, not_included, after_record, in_included, after_included}
+use Rattle.domain_includes.specs.FileFaults.{at_once, not_included, after_record, in_included, after_generated, after_included}
 use Rattle.domain_includes.specs.Steps.{IsInFile, IsFileStep, IsStepFault, IsUnopened, IsUnreadable}
-use Rattle.domain_includes.specs.declared.{step.Step.{TheVariants.{End, Record, Include}}}
+use Rattle.domain_includes.specs.declared.{step.Step.{TheVariants.{End, Record, Generated, Include}}}
 use Rattle.domain_includes.specs.declared.fault.{FileFault.FileFault, FileFaultKind.FileFaultKind}
 use Rattle.domain_includes.specs.declared.fault.FilesFault.{FilesFault, TheVariants.{File, OutOfMemory}}
 use Rattle.domain_includes.specs.declared.fault.FileFaultKind.TheVariants.{Syntax, Entry, Unreadable, TooDeep, Generate}
@@ -79,6 +79,28 @@ passed_file gives takes depth path file s left old now rest sink inner start pie
       (after_included depth path file now rest inner start pieces after others octets read.records last which next deep given read.are h);
 }
 
+pub passed_generated : (gives : Contents) {S : Type 0} (takes : S → PlacedRecord → S
+    → Type 0) (depth : ℕ) (path file : Octets) (s : State) (left : List Item) (old : S)
+    (now : State) (rest : List Item) (sink : S) (after : State) (pieces : List Piece) (others : List Item) (new : S)
+    → Passed gives takes depth path file s left old now rest sink → IsFileStep takes path file now rest sink Generated after pieces others new
+    → Passed gives takes depth path file s left old after others new
+passed_generated gives takes depth path file s left old now rest sink after pieces others new p step =
+    let passes = step.3 in
+    let next : IsNextGenerate now rest passes.g pieces step.1 others = record { octets = step.0; reads = step.2; means = passes.means } in
+    let values = passes.passes in
+    let placed = map (record_at path (place_in file (token_place pieces 0))) values.records in
+    rw passes.after_is (record {
+      before = p.before ++ placed;
+      taken = takes_all takes old sink new p.before placed p.taken values.taken;
+      on = λ more end h.
+          subst (λ rs. FileRecords gives depth path file s left rs end) (sym (append_assoc p.before placed more))
+          (p.on (placed ++ more) end
+          (generated depth path file now rest passes.g pieces step.1 others values.records passes.last more end next values.are h));
+      fault = λ place kind which h.
+          p.fault place kind which
+          (after_generated depth path file now rest passes.g pieces step.1 others values.records passes.last which next values.are h);
+    })
+
 pub passed_end : (gives : Contents) {S : Type 0} (takes : S → PlacedRecord → S
     → Type 0) (depth : ℕ) (path file : Octets) (s : State) (left : List Item) (old : S)
     (now : State) (rest : List Item) (sink : S) (end : State) (pieces : List Piece) (others : List Item) (new : S)
@@ -137,6 +159,11 @@ pub record_less : {S : Type 0} (takes : S → PlacedRecord → S → Type 0) (pa
     → IsFileStep takes path file s left old Record after pieces rest new → length rest < length left
 record_less takes path file s left old after pieces rest new step = reads_less s left [] _ after _ rest _ step.1.reads
 
+pub generated_less : {S : Type 0} (takes : S → PlacedRecord → S → Type 0) (path file : Octets) (s : State) (left : List Item) (old : S)
+    (after : State) (pieces : List Piece) (rest : List Item) (new : S)
+    → IsFileStep takes path file s left old Generated after pieces rest new → length rest < length left
+generated_less takes path file s left old after pieces rest new step = reads_less s left [] _ step.1 _ rest _ step.2
+
 pub include_less : {S : Type 0} (takes : S → PlacedRecord → S → Type 0) (path file : Octets) (s : State) (left : List Item) (old : S)
     (origin : Name) (after : State) (pieces : List Piece) (rest : List Item) (new : S)
     → IsFileStep takes path file s left old (Include origin) after pieces rest new → length rest < length left
@@ -181,7 +208,7 @@ is_not_included gives depth inner (Unreadable tried) deep h = (deep, h.0, h.1)
 is_not_included gives depth inner (Syntax e) deep h = absurd h
 is_not_included gives depth inner (Entry e) deep h = absurd h
 is_not_included gives depth inner TooDeep deep h = absurd h
-is_not_included gives depth inner Generate deep h = absurd h
+is_not_included gives depth inner (Generate kind) deep h = absurd h
 
 pub unopened_fault : (gives : Contents) {S : Type 0} (takes : S → PlacedRecord → S → Type 0) (depth : ℕ) (path file : Octets) (s : State) (left : List Item)
     (old : S) (now : State) (rest : List Item) (sink : S) (inner : Octets) (start : State) (pieces : List Piece) (after : State) (others : List Item)

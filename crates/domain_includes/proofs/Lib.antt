@@ -1,1 +1,2 @@
 pub mod FilesLemmas
+pub mod ValuesLemmas

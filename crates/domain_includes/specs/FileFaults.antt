@@ -3,23 +3,25 @@ use Rattle.std.specs.Prelude.{◌≡◌, ◌<◌, ◌-◌, ℕ, List, [], Option
 use Rattle.domain_octets.specs.Octets.{Octets}
 use Rattle.domain_names.specs.Name.{Name}
 use Rattle.domain_zonefile.specs.{Entries.{Piece, Item, items_from}, Files.ReadsItem, Places.{place_in, without_mark}}
-use Rattle.domain_zonefile.specs.{Records.{State, start_state, state_after_file}, Tokens.token_place}
+use Rattle.domain_zonefile.specs.{Records.{FileRecord, State, start_state, state_after_file}, Tokens.token_place}
 use Rattle.domain_zonefile.specs.declared.{place.Place.Place, zone_reader.ZoneItem.ZoneItem}
 use Rattle.domain_zonefile.specs.declared.zone_reader.ZoneItem.TheVariants as zone_items
-use Rattle.domain_includes.specs.Files.{Contents, FileRecords, IsNextInclude, IsNextRecordOfFiles, PlacedRecord, max_depth}
+use Rattle.domain_generate.specs.Generated.{Generated}
+use Rattle.domain_includes.specs.Files.{Contents, FileRecords, IsNextGenerate, IsNextInclude, IsNextRecordOfFiles, PlacedRecord, max_depth}
+use Rattle.domain_includes.specs.GeneratedLines.{GeneratedRecords, IsGenerateFault}
 use Rattle.domain_includes.specs.declared.fault.{FileFaultKind.FileFaultKind, FilesFault.{FilesFault, TheVariants.{File, OutOfMemory}}}
-use Rattle.domain_includes.specs.declared.fault.FileFaultKind.TheVariants.{Syntax, Entry, Unreadable, TooDeep, Generate}
+use Rattle.domain_includes.specs.declared.fault.FileFaultKind.TheVariants.{Syntax, Entry, Unreadable, TooDeep}
 
--- the fault of an item of a file, with its place
-abbrev pub FilesItemFault : Octets → ZoneItem → List Piece → Place → FileFaultKind → Type 0
-FilesItemFault file (zone_items.Misspelled fault) pieces place kind =
+-- the fault of an item of a file, with its place, where this is known after it
+abbrev pub FilesItemFault : Octets → State → ZoneItem → List Piece → Place → FileFaultKind → Type 0
+FilesItemFault file after (zone_items.Misspelled fault) pieces place kind =
     (place ≡ place_in file fault.at) × (kind ≡ Syntax fault.error)
-FilesItemFault file (zone_items.Refused fault) pieces place kind =
+FilesItemFault file after (zone_items.Refused fault) pieces place kind =
     (place ≡ place_in file (token_place pieces fault.token)) × (kind ≡ Entry fault.kind)
-FilesItemFault file zone_items.Generate pieces place kind =
-    (place ≡ place_in file (token_place pieces 0)) × (kind ≡ Generate)
-FilesItemFault file (zone_items.Include origin) pieces place kind = ⊥
-FilesItemFault file (zone_items.Record fields) pieces place kind = ⊥
+FilesItemFault file after zone_items.Generate pieces place kind =
+    IsGenerateFault file after pieces place kind
+FilesItemFault file after (zone_items.Include origin) pieces place kind = ⊥
+FilesItemFault file after (zone_items.Record fields) pieces place kind = ⊥
 
 -- the next item of a file has this fault
 pub record IsNextFaultOfFiles (file : Octets) (s : State) (left : List Item) (place : Place)
@@ -30,7 +32,7 @@ pub record IsNextFaultOfFiles (file : Octets) (s : State) (left : List Item) (pl
   pub rest : List Item
   pub octets : Octets
   pub reads : ReadsItem s left [] (Some item) after pieces rest octets
-  pub is : FilesItemFault file item pieces place kind
+  pub is : FilesItemFault file after item pieces place kind
 
 -- why the file at a path is not included: it cannot be read, or too many files are included within
 -- each other
@@ -69,6 +71,13 @@ pub data FirstFaultOfFiles (gives : Contents) (place : Place) (kind : FileFaultK
       → gives inner (Some octets)
       → FileRecords gives (depth - 1) inner (without_mark octets) start
       (items_from (without_mark octets) 0) records last
+      → FirstFaultOfFiles gives place kind depth path file (state_after_file after last) rest which
+      → FirstFaultOfFiles gives place kind depth path file s left which
+  after_generated : (depth : ℕ) (path file : Octets) (s : State) (left : List Item)
+      (g : Generated) (pieces : List Piece) (after : State) (rest : List Item)
+      (records : List FileRecord) (last : State) (which : Option Octets)
+      → IsNextGenerate s left g pieces after rest
+      → GeneratedRecords g 0 after records last
       → FirstFaultOfFiles gives place kind depth path file (state_after_file after last) rest which
       → FirstFaultOfFiles gives place kind depth path file s left which
 

@@ -1,13 +1,14 @@
 -- What a zone file means with the files that it includes: the records of all, in order (RFC 1035,
 -- section 5.1).
-use Rattle.std.specs.Prelude.{◌≡◌, ◌<◌, ◌-◌, ◌++◌, ℕ, List, [], ◌∷◌, Option, Some, None}
+use Rattle.std.specs.Prelude.{◌≡◌, ◌<◌, ◌-◌, ◌++◌, ℕ, List, [], ◌∷◌, Option, Some, None, Ok, map}
 use Rattle.domain_octets.specs.Octets.{Octets}
 use Rattle.domain_names.specs.Name.{Name}
-use Rattle.domain_zonefile.specs.{Entries.{Piece, Item, items_from}, Files.ReadsItem, Places.{place_in, without_mark}, Tokens.token_place}
+use Rattle.domain_zonefile.specs.{Entries.{Piece, Item, items_from}, Files.ReadsItem, Places.{place_in, without_mark}, Tokens.{piece_view, token_place}}
 use Rattle.domain_zonefile.specs.Records.{FileRecord, State, included_state, record_with, start_state, state_after_file}
 use Rattle.domain_zonefile.specs.declared.{place.Place.Place, state.RecordFields.RecordFields}
 use Rattle.domain_zonefile.specs.declared.zone_reader.ZoneItem.TheVariants as zone_items
-use Rattle.domain_includes.specs.Paths.{included_name, included_path}
+use Rattle.domain_generate.specs.Generated.{Generated, generation_of}
+use Rattle.domain_includes.specs.{GeneratedLines.GeneratedRecords, Paths.{included_name, included_path}}
 
 -- what reading of a path may give: the octets of a file, or None if there is none to read
 abbrev pub Contents : Type 1
@@ -44,8 +45,16 @@ pub record IsNextInclude (path : Octets) (s : State) (left : List Item) (inner :
   pub path_is : inner ≡ included_path path (included_name pieces)
   pub start_is : start ≡ included_state after origin
 
+-- the next item is $GENERATE with these tokens, which say this
+pub record IsNextGenerate (s : State) (left : List Item) (g : Generated) (pieces : List Piece)
+    (after : State) (rest : List Item) : Type 0 where
+  pub octets : Octets
+  pub reads : ReadsItem s left [] (Some zone_items.Generate) after pieces rest octets
+  pub means : generation_of (map piece_view pieces) ≡ Ok g
+
 -- the records of what is left of the file at a path, and what is known at its end. An included file
--- gives its records where it is included. At most `depth` files are included within each other
+-- gives its records where it is included, and $GENERATE those of its values, all at its first token.
+-- At most `depth` files are included within each other
 pub data FileRecords (gives : Contents) : ℕ → Octets → Octets → State → List Item
     → List PlacedRecord → State → Type 0 where
   no_record : (depth : ℕ) (path file : Octets) (s : State) (left : List Item) (end : State)
@@ -65,6 +74,13 @@ pub data FileRecords (gives : Contents) : ℕ → Octets → Octets → State �
       (items_from (without_mark octets) 0) records last
       → FileRecords gives depth path file (state_after_file after last) rest more end
       → FileRecords gives depth path file s left (records ++ more) end
+  generated : (depth : ℕ) (path file : Octets) (s : State) (left : List Item) (g : Generated)
+      (pieces : List Piece) (after : State) (rest : List Item) (records : List FileRecord)
+      (last : State) (more : List PlacedRecord) (end : State)
+      → IsNextGenerate s left g pieces after rest → GeneratedRecords g 0 after records last
+      → FileRecords gives depth path file (state_after_file after last) rest more end
+      → FileRecords gives depth path file s left
+      (map (record_at path (place_in file (token_place pieces 0))) records ++ more) end
 
 -- the number of files that may be included within each other
 abbrev pub max_depth : ℕ

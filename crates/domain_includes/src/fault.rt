@@ -3,6 +3,7 @@ ghost use Rattle.std.specs.Prelude.{◌≡◌, None};
 ghost use Rattle.domain_includes.specs.Steps.{IsInFile};
 ghost use Rattle.domain_includes.specs.declared.fault.FilesFault.TheVariants as files_fault;
 
+use domain_generate::GenerateFaultKind;
 use domain_octets::OutOfMemory;
 use domain_zonefile::{EntryFaultKind, Place, SyntaxError};
 use std::fmt;
@@ -19,8 +20,8 @@ pub enum FileFaultKind {
     /// An entry `$INCLUDE` in the last of [`MAX_DEPTH`](crate::MAX_DEPTH) files that are included
     /// within each other.
     TooDeep,
-    /// An entry `$GENERATE`: it is not read.
-    Generate,
+    /// An entry `$GENERATE` with this fault.
+    Generate(GenerateFaultKind),
 }
 
 /// A fault of a zone file or of a file that it includes.
@@ -114,7 +115,7 @@ impl fmt::Display for FileFaultKind {
                 write!(f, "cannot read {}", PathText(path.as_slice()))
             }
             FileFaultKind::TooDeep => f.write_str("more than 10 files within each other"),
-            FileFaultKind::Generate => f.write_str("$GENERATE is not read"),
+            FileFaultKind::Generate(kind) => write!(f, "{kind}"),
         }
     }
 }

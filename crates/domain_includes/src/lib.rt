@@ -1,4 +1,5 @@
-//! Zone files with the files that they include (RFC 1035, section 5.1, `$INCLUDE`).
+//! Zone files with the files that they include (RFC 1035, section 5.1, `$INCLUDE`), and with the
+//! records that `$GENERATE` stands for.
 //!
 //! - [`read_files`] reads the records of a zone file and of the files that it includes, in one
 //!   pass, and passes each to a [`RecordSink`]. The first fault ends it: a [`FileFault`] with its
@@ -12,6 +13,7 @@
 
 mod fault;
 mod files;
+mod generated;
 mod path;
 mod reader;
 mod step;

@@ -75,6 +75,7 @@ fn read_file<F: FileSource, S: RecordSink>(
         let origin = match next_step(alloc, path, reader, &mut data, sink) {
             Ok(Step::End) => return Ok(()),
             Ok(Step::Record) => continue 'items,
+            Ok(Step::Generated) => continue 'items,
             Ok(Step::Include(origin)) => origin,
             Err(fault) => return Err(fault),
         };
@@ -98,7 +99,8 @@ fn read_file<F: FileSource, S: RecordSink>(
 /// their records to the sink, in order. The path is that of the file, or empty: paths of included
 /// files are relative to its folder. An included file begins with the present owner, TTL default
 /// and class. After it, origin and owner come back, and the TTL default, the last TTL and class go
-/// on (RFC 2308, section 4).
+/// on (RFC 2308, section 4). An entry `$GENERATE` gives the records of the lines of its values. The
+/// owner comes back after it too, and the last TTL and class go on.
 ///
 /// # Errors
 ///

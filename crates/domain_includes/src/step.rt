@@ -4,10 +4,13 @@ ghost use Rattle.domain_includes.specs.Steps.{IsFaultOfItem, IsOwned, IsFileStep
 
 use crate::fault::{FileFaultKind, FilesFault, fault_at};
 use crate::files::RecordSink;
+use crate::generated::pass_generated;
 use domain_base::Name;
 use domain_octets::{OutOfMemory, SmallOctets};
 use domain_types::DataFaultKind;
-use domain_zonefile::{EntryFault, EntryFaultKind, RecordFields, ZoneItem, ZoneReader};
+use domain_zonefile::{
+    EntryFault, EntryFaultKind, Place, RecordFields, ZoneItem, ZoneReader, ZoneState,
+};
 use std::alloc::Global;
 
 /// What the next item of a file was.
@@ -17,14 +20,16 @@ pub(crate) enum Step {
     End,
     /// A record. It was passed to the sink.
     Record,
+    /// `$GENERATE`. Its records were passed to the sink.
+    Generated,
     /// `$INCLUDE`, with the origin of the file.
     Include(Name<SmallOctets>),
 }
 
 /// Returns the fault of an entry.
 fn fault_of_entry(reader: &mut ZoneReader<'_>, fault: EntryFault) -> FilesFault
-    ensures fault { IsFaultOfItem reader.old.file (ZoneItem.Refused fault) reader.old.tokens
-        result }
+    ensures fault { IsFaultOfItem reader.old.file reader.old.state (ZoneItem.Refused fault)
+        reader.old.tokens result }
     ensures file { reader.new.file ≡ reader.old.file }
 {
     match fault.kind {
@@ -37,28 +42,27 @@ fn fault_of_entry(reader: &mut ZoneReader<'_>, fault: EntryFault) -> FilesFault
     }
 }
 
-/// Passes the record that was read last, of the file at a path, to the sink.
-fn take_record<S: RecordSink>(
+/// Passes the record that was read last to the sink. It is at this place of the file at a path.
+pub(crate) fn take_record<S: RecordSink>(
     path: &[u8],
-    reader: &mut ZoneReader<'_>,
+    place: Place,
+    state: &ZoneState,
     fields: RecordFields,
     octets: &[u8],
     sink: &mut S,
 ) -> Result<(), OutOfMemory>
     requires fits { length octets.now ≤ 65535 }
-    requires owned { IsOwned reader.old.state }
-    ensures taken { OnOk result (TakesRecord S.takes path.now reader.old.file reader.old.state
-        reader.old.tokens fields octets.now sink.old sink.new) }
-    ensures same { reader.new ≡ reader.old }
+    requires owned { IsOwned state.now }
+    ensures { OnOk result (TakesRecord S.takes path.now place state.now fields octets.now sink.old
+        sink.new) }
 {
-    let place = reader.place_of_token(0);
-    match reader.state().owner() {
+    match state.owner() {
         Some(owner) => sink.take(path, place, &owner, fields, octets),
         None => unreachable!(),
     }
 }
 
-/// Reads the next item of the file at a path, and passes a record to the sink.
+/// Reads the next item of the file at a path, and passes its record or records to the sink.
 pub(crate) fn next_step<S: RecordSink>(
     alloc: Global,
     path: &[u8],
@@ -77,22 +81,23 @@ pub(crate) fn next_step<S: RecordSink>(
         Ok(None) => return Ok(Step::End),
         Err(OutOfMemory) => return Err(FilesFault::OutOfMemory),
     };
-    let (place, kind) = match item {
+    match item {
         ZoneItem::Record(fields) => {
-            return match take_record(path, reader, fields, data.as_slice(), sink) {
+            let place = reader.place_of_token(0);
+            match take_record(path, place, reader.state(), fields, data.as_slice(), sink) {
                 Ok(()) => Ok(Step::Record),
                 Err(OutOfMemory) => Err(FilesFault::OutOfMemory),
-            };
+            }
         }
-        ZoneItem::Include(origin) => return Ok(Step::Include(origin)),
-        ZoneItem::Refused(fault) => return Err(fault_of_entry(reader, fault)),
-        ZoneItem::Misspelled(fault) => {
-            (
-                reader.place_of(fault.at),
-                FileFaultKind::Syntax(fault.error),
-            )
-        }
-        ZoneItem::Generate => (reader.place_of_token(0), FileFaultKind::Generate),
-    };
-    Err(fault_at(place, kind))
+        ZoneItem::Include(origin) => Ok(Step::Include(origin)),
+        ZoneItem::Generate => match pass_generated(alloc, path, reader, data, sink) {
+            Ok(()) => Ok(Step::Generated),
+            Err(fault) => Err(fault),
+        },
+        ZoneItem::Refused(fault) => Err(fault_of_entry(reader, fault)),
+        ZoneItem::Misspelled(fault) => Err(fault_at(
+            reader.place_of(fault.at),
+            FileFaultKind::Syntax(fault.error),
+        )),
+    }
 }

@@ -166,3 +166,79 @@ fn faults(rt: HostRuntime) -> Result<(), Fail> {
         ],
     )
 }
+
+#[test]
+fn generated_records(rt: HostRuntime) -> Result<(), Fail> {
+    compare(
+        &rt,
+        rt.alloc(),
+        &[
+            (
+                b"a 9 A 192.0.2.9\n$GENERATE 1-3/2 h$ 60 A 192.0.2.$\n TXT \"back\"\n",
+                ":1 a.example 9 1 1 c0000209\n:2 h1.example 60 1 1 c0000201\n\
+                 :2 h3.example 60 1 1 c0000203\n:3 a.example 60 1 16 046261636b\n",
+            ),
+            (
+                b"$TTL 2h\n$ORIGIN x\n\
+                  $GENERATE 5-6 ${0,3}.${1,1,n} PTR p${-5,2,x}.example.\n",
+                ":3 005.6.x.example 7200 1 12 03703030076578616d706c6500\n\
+                 :3 006.7.x.example 7200 1 12 03703031076578616d706c6500\n",
+            ),
+            (
+                b"$GENERATE 8-8 m$ 60 MX \"$ m${1,3,o}\"",
+                ":1 m8.example 60 1 15 0008046d303131076578616d706c6500\n",
+            ),
+            (
+                b"$GENERATE 7-7 t$$$ 60 TXT \"\\\"x $$ y\\\" \\$$\"",
+                ":1 t\\$7.example 60 1 16 057820242079022437\n",
+            ),
+            (
+                b"$generate 1-1 $$ORIGIN 5 A 192.0.2.$",
+                ":1 \\$ORIGIN.example 5 1 1 c0000201\n",
+            ),
+            (
+                b"$TTL 2h\n$GENERATE 1-1 @ AAAA 2001:db8::${0,4,x}\n\
+                  $GENERATE 1-1 u$ 5 AAAA 2001:db8::${0,4,x}\nb TXT z",
+                ":2 example 7200 1 28 20010db8000000000000000000000001\n\
+                 :3 u1.example 5 1 28 20010db8000000000000000000000001\n\
+                 :4 b.example 7200 1 16 017a\n",
+            ),
+            (
+                b"$GENERATE 1-2 b$ 5 TXT \"( $ ) ; comment\"",
+                ":1 b1.example 5 1 16 0131\n:1 b2.example 5 1 16 0132\n",
+            ),
+        ],
+        &[],
+    )
+}
+
+#[test]
+fn faults_of_generated_records(rt: HostRuntime) -> Result<(), Fail> {
+    compare(
+        &rt,
+        rt.alloc(),
+        &[
+            (
+                b"$GENERATE 1-2/0 h$ A 192.0.2.$",
+                "1:11: not a range: expected START-STOP or START-STOP/STEP",
+            ),
+            (
+                b"$GENERATE 1-2 h$ A 1 2",
+                "1:22: $GENERATE has data of one token: quote them",
+            ),
+            (
+                b"\n$GENERATE 1-2 h$ A 192.0.2.$",
+                "2:1: no TTL: write one, or $TTL before",
+            ),
+            (
+                b"$GENERATE 255-256 h$ 1 A 192.0.2.$",
+                ":1 h255.example 1 1 1 c00002ff\n1:1: expected an IPv4 address",
+            ),
+            (
+                b"$GENERATE 1-2 a 1 TXT \"(x\"",
+                "1:1: bracket is never closed",
+            ),
+        ],
+        &[],
+    )
+}

@@ -1,7 +1,7 @@
 use Rattle.std.proofs.Common.{arith, ◌≡◌, ◌∙◌, ◌<◌, ◌-◌, List, length, refl, sym, ap, subst}
 use Rattle.domain_zonefile.specs.{Entries.Item, Records.{state_after_file}}
-use Rattle.domain_includes.proofs.FilesLemmas.{deep_told, include_less, inner_fault, inner_records, inner_stop}
-use Rattle.domain_includes.proofs.FilesLemmas.{next_include, next_opened, passed_at, passed_end, passed_file, passed_none}
+use Rattle.domain_includes.proofs.FilesLemmas.{deep_told, generated_less, include_less, inner_fault, inner_records, inner_stop}
+use Rattle.domain_includes.proofs.FilesLemmas.{next_include, next_opened, passed_at, passed_end, passed_file, passed_generated, passed_none}
 use Rattle.domain_includes.proofs.FilesLemmas.{passed_record, record_less, step_fault, unopened_fault}
 use Rattle.domain_includes.proofs.reader.+read_file.Goals as goal
 
@@ -23,6 +23,17 @@ items-preserved-in-Ok-Record g t c =
     let step = rw c.in-Ok-Record.field-0-is at c.in-Ok-Record.ensures.ok in
     let more = passed_record _ _ _ _ _ _ _ _ _ _ _ _ _ _ _ c.items.invariant.passed step.1 step.2 in
     record { passed = rw c.in-Ok-Record.ensures.file more; file = c.in-Ok-Record.ensures.file ∙ c.items.invariant.file }
+
+pub items-smaller-in-Ok-Generated : goal.items-smaller-in-Ok-Generated
+items-smaller-in-Ok-Generated g t c =
+    generated_less g.S.RecordSink.takes c.args.path.now c.items.reader.file _ _ _ _ c.next_step.new.reader.tokens _ _ (rw c.in-Ok-Generated.field-0-is at
+    c.in-Ok-Generated.ensures.ok)
+
+pub items-preserved-in-Ok-Generated : goal.items-preserved-in-Ok-Generated
+items-preserved-in-Ok-Generated g t c =
+    let step = rw c.in-Ok-Generated.field-0-is at c.in-Ok-Generated.ensures.ok in
+    let more = passed_generated _ _ _ _ _ _ _ _ _ _ _ _ _ _ _ c.items.invariant.passed step in
+    record { passed = rw c.in-Ok-Generated.ensures.file more; file = c.in-Ok-Generated.ensures.file ∙ c.items.invariant.file }
 
 pub returns-in-Err-clause-err : goal.returns-in-Err-clause-err
 returns-in-Err-clause-err g t c =

@@ -23,13 +23,19 @@ pub take_record-requires-clause-owned : goal.take_record-requires-clause-owned
 take_record-requires-clause-owned g c =
     let read = rw (c.in-Ok-Some.field-0-is, c.in-Record.is, c.clear.ensures.items) at c.in-Ok-Some.ensures.found in
     let own = reads_record _ _ _ c.in-Record.fields _ _ _ _ read in
-    (own.owner, own.owner_is)
+    (own.owner, rw (c.state.ensures, c.place_of_token-place.ensures.same) own.owner_is)
 
 pub returns-in-Ok-clause-ok : goal.returns-in-Ok-clause-ok
 returns-in-Ok-clause-ok g c =
     let read = rw (c.in-Ok-Some.field-0-is, c.in-Record.is, c.clear.ensures.items) at c.in-Ok-Some.ensures.found in
-    let put = rw (c.as_slice.ensures.value, c.next_item.ensures.file) at c.in-Ok.ensures.taken in
-    rw c.in-Ok.ensures.same (
+    let put = rw (
+      c.as_slice.ensures.value,
+      c.state.ensures,
+      c.place_of_token-place.ensures.place,
+      c.place_of_token-place.ensures.same,
+      c.next_item.ensures.file,
+    ) at c.in-Ok.ensures in
+    rw c.place_of_token-place.ensures.same (
       record_at c.args.path.now (place_in c.args.reader.now.file (token_place c.next_item.new.self.tokens 0))
           (record_with put.0 c.in-Record.fields c.next_item.new.data.items),
       record {

@@ -1,0 +1,5 @@
+pub mod CutLemmas
+pub mod PatternLemmas
+pub mod NumberLemmas
+pub mod RangeLemmas
+pub mod GenerateLemmas

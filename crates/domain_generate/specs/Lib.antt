@@ -1,0 +1,3 @@
+pub mod Ranges
+pub mod Patterns
+pub mod Generated
