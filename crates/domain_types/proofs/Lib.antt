@@ -4,6 +4,8 @@ pub mod DataLemmas
 pub mod TableLemmas
 pub mod SpellLemmas
 pub mod ReadLemmas
+pub mod FieldLaws
+pub mod GatewayLaws
 pub mod ReadLaws
 pub mod TypeSetLemmas
 pub mod TtlLemmas

@@ -1,7 +1,7 @@
 -- Data of a type in presentation format: the octets that tokens spell, and the first fault (RFC
 -- 1035, section 5.1; RFC 3597, section 5).
-use Rattle.std.specs.Prelude.{◌≡◌, ◌≢◌, ℕ, ◌+◌, ◌<◌, ◌≤◌, ◌⊎◌, ◌&&◌, ◌||◌, ◌==◌, Bool, true, false, not, if◌then◌else◌, List, [], ◌∷◌, ◌++◌, length}
-use Rattle.std.specs.Prelude.{map, drop, codes}
+use Rattle.std.specs.Prelude.{◌≡◌, ◌≢◌, ℕ, ◌+◌, ◌*◌, ◌<◌, ◌≤◌, ◌⊎◌, ◌&&◌, ◌||◌, ◌==◌, Bool, true, false, not, if◌then◌else◌, List, [], ◌∷◌, ◌++◌, length}
+use Rattle.std.specs.Prelude.{map, drop, codes, Option, Some, None}
 use Rattle.std.specs.List.{concat, AllByRecursion}
 use Rattle.domain_octets.specs.{Octets.Octets, Text.{quote, backslash}}
 use Rattle.domain_names.specs.Name.{Name}
@@ -10,7 +10,8 @@ use Rattle.domain_bitmap.specs.{Bitmap.bitmap_octets, Text.is_among}
 use Rattle.domain_codecs.specs.{Codec.Decodes, declared.codec.Codec.{Codec}}
 use Rattle.domain_codecs.specs.declared.codec.Codec.TheVariants as codecs
 use Rattle.domain_types.specs.{Canonical.IsData, Spelling.{FieldSpelling, NameToken}, Table.{fields_of, tail_of, MnemonicText}}
-use Rattle.domain_types.specs.declared.field.Field.{Field, TheVariants.CharacterString}
+use Rattle.domain_types.specs.declared.field.Field.{Field, TheVariants.{CharacterString, Number8, Flag, GatewayType, Ipv4, Ipv6}}
+use Rattle.domain_types.specs.declared.field.Field.TheVariants as fields
 use Rattle.domain_types.specs.declared.field.Tail.{Tail}
 use Rattle.domain_types.specs.declared.field.Tail.TheVariants as tails
 use Rattle.domain_svcb.specs.{Strings.StringText, Values.Parameter}
@@ -149,6 +150,146 @@ pub record ParametersTexts (tokens : List TokenText) (octets : Octets) : Type 0 
   pub consistent : is_consistent all ≡ true
   pub wire : octets ≡ parameters_octets all
 
+-- the fault of tokens that have to be a text of the codec
+abbrev pub BaseFault : Codec → Tail → List TokenText → ℕ → DataFaultKind → Type 0
+BaseFault codec tail tokens place Missing = (place ≡ 0) × (tokens ≡ [])
+BaseFault codec tail tokens place (NotTail other) =
+    (place ≡ 0) × (other ≡ tail) × (0 < length tokens)
+    × ((octets : Octets) → BaseTexts codec tokens octets → ⊥)
+BaseFault codec tail tokens place OutOfMemory = Unit {0}
+BaseFault codec tail tokens place kind = ⊥
+
+-- ---- gateways
+
+-- the first token has this property, and these are left
+pub record FirstToken (P : TokenText → Type 0) (tokens left : List TokenText) : Type 0 where
+  pub token : TokenText
+  pub parts : tokens ≡ token ∷ left
+  pub holds : P token
+
+-- the first token has this fault, or is missing
+abbrev pub FirstTokenFault : (TokenText → DataFaultKind → Type 0) → List TokenText
+    → DataFaultKind → Type 0
+FirstTokenFault Why [] kind = kind ≡ Missing
+FirstTokenFault Why (token ∷ tokens) kind = Why token kind
+
+-- the field of the gateways of a type; type 0 has none
+abbrev pub gateway_field : ℕ → Option Field
+gateway_field kind =
+    if kind == 1 then Some Ipv4
+    else (if kind == 2 then Some Ipv6 else (if kind == 3 then Some fields.Name else None))
+
+-- the token is the dot that says that there is no gateway
+pub record SpellsNoGateway (token : TokenText) (octets : Octets) : Type 0 where
+  pub unquoted : token.is_quoted ≡ false
+  pub dot : token.octets ≡ codes "."
+  pub none : octets ≡ []
+
+-- the token spells a gateway: a field of this kind, or none
+abbrev pub SpellsGateway : Name → Option Field → TokenText → Octets → Type 0
+SpellsGateway origin None token octets = SpellsNoGateway token octets
+SpellsGateway origin (Some field) token octets = SpellsField origin field token octets
+
+-- the fault of a token that has to spell a gateway
+abbrev pub GatewayTokenFault : Name → Option Field → TokenText → DataFaultKind → Type 0
+GatewayTokenFault origin None token kind =
+    (kind ≡ NotField fields.Gateway) × ((octets : Octets) → SpellsNoGateway token octets → ⊥)
+GatewayTokenFault origin (Some field) token kind = TokenFault origin field token kind
+
+-- the first token spells a field of one octet
+abbrev pub FirstOctet : Name → Field → List TokenText → ℕ → List TokenText → Type 0
+FirstOctet origin field tokens n left =
+    FirstToken (λ token. SpellsField origin field token (n ∷ [])) tokens left
+
+-- of two numbers, the one that is the type of a gateway
+abbrev pub gateway_type : Field → ℕ → ℕ → ℕ
+gateway_type GatewayType a b = a
+gateway_type first a b = b
+
+-- the tokens begin with two fields of one octet, one of them the type of a gateway, and the gateway
+pub record HeadTexts (origin : Name) (first second : Field) (tokens : List TokenText) (a b : ℕ)
+    (gateway : Octets) (left : List TokenText) : Type 0 where
+  pub after_a : List TokenText
+  pub of_a : FirstOctet origin first tokens a after_a
+  pub after_b : List TokenText
+  pub of_b : FirstOctet origin second after_a b after_b
+  pub of_gateway : FirstToken (λ token.
+      SpellsGateway origin (gateway_field (gateway_type first a b)) token gateway) after_b left
+
+-- the first fault of tokens that have to begin so, by its place
+pub data HeadFault (origin : Name) (first second : Field) (tokens : List TokenText) (place : ℕ)
+    (kind : DataFaultKind) : Type 0 where
+  at_first : place ≡ 0 → FirstTokenFault (TokenFault origin first) tokens kind
+      → HeadFault origin first second tokens place kind
+  at_second : (a : ℕ) (after_a : List TokenText) → place ≡ 1
+      → FirstOctet origin first tokens a after_a
+      → FirstTokenFault (TokenFault origin second) after_a kind
+      → HeadFault origin first second tokens place kind
+  at_gateway : (a b : ℕ) (after_a after_b : List TokenText) → place ≡ 2
+      → FirstOctet origin first tokens a after_a → FirstOctet origin second after_a b after_b
+      → FirstTokenFault (GatewayTokenFault origin (gateway_field (gateway_type first a b))) after_b
+      kind
+      → HeadFault origin first second tokens place kind
+
+-- the tokens spell the key of a gateway, which is absent exactly for algorithm 0
+pub data KeyTexts (algorithm : ℕ) (tokens : List TokenText) (octets : Octets) : Type 0 where
+  no_key : algorithm ≡ 0 → tokens ≡ [] → octets ≡ [] → KeyTexts algorithm tokens octets
+  some_key : algorithm ≢ 0 → BaseTexts codecs.Base64 tokens octets
+      → KeyTexts algorithm tokens octets
+
+-- the first fault of tokens that have to spell the key of a gateway, by its place
+pub data KeyFault (algorithm : ℕ) (tokens : List TokenText) (place : ℕ) (kind : DataFaultKind)
+    : Type 0 where
+  key_of_none : algorithm ≡ 0 → 0 < length tokens → place ≡ 0 → kind ≡ Extra
+      → KeyFault algorithm tokens place kind
+  not_key : algorithm ≢ 0 → BaseFault codecs.Base64 tails.Base64 tokens place kind
+      → KeyFault algorithm tokens place kind
+
+-- the tokens spell the type of a gateway, an algorithm, the gateway and its key (RFC 4025, section
+-- 3.1)
+pub record GatewayTexts (origin : Name) (tokens : List TokenText) (octets : Octets)
+    : Type 0 where
+  pub kind : ℕ
+  pub algorithm : ℕ
+  pub gateway : Octets
+  pub left : List TokenText
+  pub head : HeadTexts origin GatewayType Number8 tokens kind algorithm gateway left
+  pub key : Octets
+  pub last : KeyTexts algorithm left key
+  pub wire : octets ≡ kind ∷ algorithm ∷ (gateway ++ key)
+
+-- the first fault of tokens that have to spell these, by its place
+pub data GatewayFault (origin : Name) (tokens : List TokenText) (place : ℕ)
+    (kind : DataFaultKind) : Type 0 where
+  in_gateway : HeadFault origin GatewayType Number8 tokens place kind
+      → GatewayFault origin tokens place kind
+  in_key : (a algorithm : ℕ) (gateway : Octets) (left : List TokenText) (before : ℕ)
+      → HeadTexts origin GatewayType Number8 tokens a algorithm gateway left
+      → place ≡ 3 + before → KeyFault algorithm left before kind
+      → GatewayFault origin tokens place kind
+  gateway_memory : kind ≡ OutOfMemory → GatewayFault origin tokens place kind
+
+-- the tokens spell the bit for discovery, the type of a relay, and the relay; the bit and the type
+-- share an octet (RFC 8777, sections 4.2 and 4.3)
+pub record RelayTexts (origin : Name) (tokens : List TokenText) (octets : Octets) : Type 0 where
+  pub flag : ℕ
+  pub kind : ℕ
+  pub relay : Octets
+  pub head : HeadTexts origin Flag GatewayType tokens flag kind relay []
+  pub wire : octets ≡ (128 * flag + kind) ∷ relay
+
+-- the first fault of tokens that have to spell these, by its place
+pub data RelayFault (origin : Name) (tokens : List TokenText) (place : ℕ) (kind : DataFaultKind)
+    : Type 0 where
+  in_relay : HeadFault origin Flag GatewayType tokens place kind
+      → RelayFault origin tokens place kind
+  after_relay : (a b : ℕ) (relay : Octets) (left : List TokenText)
+      → HeadTexts origin Flag GatewayType tokens a b relay left → 0 < length left → place ≡ 3
+      → kind ≡ Extra → RelayFault origin tokens place kind
+  relay_memory : kind ≡ OutOfMemory → RelayFault origin tokens place kind
+
+-- ---- all tails
+
 -- the tokens spell the octets of this tail; the kinds without a text of their own are spelled by no
 -- tokens: their data are read in the generic form
 abbrev pub TailTexts : Name → Tail → List TokenText → Octets → Type 0
@@ -159,20 +300,13 @@ TailTexts origin tails.Quoted tokens octets = QuotedTexts tokens octets
 TailTexts origin tails.Opaque tokens octets = ⊥
 TailTexts origin tails.Types tokens octets = BitmapTexts tokens octets
 TailTexts origin tails.Parameters tokens octets = ParametersTexts tokens octets
+TailTexts origin tails.GatewayAndKey tokens octets = GatewayTexts origin tokens octets
+TailTexts origin tails.FlagAndRelay tokens octets = RelayTexts origin tokens octets
 TailTexts origin (tails.Many field) tokens octets = ManyTexts origin field tokens octets
 TailTexts origin (tails.AtLeastOne field) tokens octets =
     (0 < length tokens) × ManyTexts origin field tokens octets
 TailTexts origin (tails.AtMostOne field) tokens octets =
     (length tokens ≤ 1) × ManyTexts origin field tokens octets
-
--- the fault of tokens that have to be a text of the codec
-abbrev pub BaseFault : Codec → Tail → List TokenText → ℕ → DataFaultKind → Type 0
-BaseFault codec tail tokens place Missing = (place ≡ 0) × (tokens ≡ [])
-BaseFault codec tail tokens place (NotTail other) =
-    (place ≡ 0) × (other ≡ tail) × (0 < length tokens)
-    × ((octets : Octets) → BaseTexts codec tokens octets → ⊥)
-BaseFault codec tail tokens place OutOfMemory = Unit {0}
-BaseFault codec tail tokens place kind = ⊥
 
 -- the fault of tokens that have to be one string
 abbrev pub QuotedFault : List TokenText → ℕ → DataFaultKind → Type 0
@@ -245,6 +379,8 @@ TailFault origin tails.Quoted tokens place kind = QuotedFault tokens place kind
 TailFault origin tails.Opaque tokens place kind = (place ≡ 0) × (kind ≡ NoText)
 TailFault origin tails.Types tokens place kind = MnemonicFault tokens place kind
 TailFault origin tails.Parameters tokens place kind = ParametersFault [] tokens place kind
+TailFault origin tails.GatewayAndKey tokens place kind = GatewayFault origin tokens place kind
+TailFault origin tails.FlagAndRelay tokens place kind = RelayFault origin tokens place kind
 TailFault origin (tails.Many field) tokens place kind = ManyFault origin field tokens place kind
 TailFault origin (tails.AtLeastOne field) tokens place kind =
     ((place ≡ 0) × (kind ≡ Missing) × (tokens ≡ [])) ⊎ ManyFault origin field tokens place kind

@@ -26,6 +26,7 @@ mod canonical;
 mod data;
 mod fault_text;
 mod field;
+mod gateway;
 mod hashed;
 pub mod laws;
 mod lookup;

@@ -5,7 +5,7 @@ ghost use Rattle.domain_octets.specs.{Octets.Octets, Text.at_sign};
 ghost use Rattle.domain_base.specs.Scan.{IsNumber};
 ghost use Rattle.domain_names.specs.{Name.{wire_of, IsName}, Text.{NameText, NameTextFault, scan_fault_of}, Wire.{IsWire, labels_of}};
 ghost use Rattle.domain_types.specs.Spelling.{going_on, ends_in_dot, NameField, NameToken};
-ghost use Rattle.domain_types.specs.Spelling.{ByteText, ShortText, LongText, TypeField, TagText};
+ghost use Rattle.domain_types.specs.Spelling.{ByteText, LimitedText, ShortText, LongText, TypeField, TagText};
 ghost use Rattle.domain_types.specs.Spelling.{LongAddressText, StringField, PlainText, FieldSpelling};
 ghost use Rattle.domain_types.specs.Spelling.{PeriodField};
 ghost use Rattle.domain_svcb.specs.Strings.{SpellsNothing, StringText};
@@ -239,6 +239,19 @@ fn spell_byte(text: &[u8]) -> Option<Part>
     Some(part_of(&[number]))
 }
 
+/// Returns the octet of the number up to a limit that a token spells.
+fn spell_limited(limit: u8, text: &[u8]) -> Option<Part>
+    ensures some { IfSome result (LimitedText limit text.now) }
+    ensures none { IfNone result ((octets : Octets) → LimitedText limit text.now octets → ⊥) }
+{
+    let number = u8::try_from(number(text)?).ok()?;
+    if number <= limit {
+        Some(part_of(&[number]))
+    } else {
+        None
+    }
+}
+
 /// Returns the two octets of the number that a token spells.
 fn spell_short(text: &[u8]) -> Option<Part>
     ensures some { IfSome result (ShortText text.now) }
@@ -311,6 +324,8 @@ fn spell_plain(alloc: Global, field: Field, text: &[u8]) -> Option<Part>
         Field::Number16 => spell_short(text),
         Field::CertificateType => spell_short_or_mnemonic(certificates(), text),
         Field::Number32 => spell_long(text),
+        Field::Flag => spell_limited(1, text),
+        Field::GatewayType => spell_limited(3, text),
         Field::Time => spell_time(text),
         Field::Period => spell_period(text),
         Field::RecordType => spell_type(text),
