@@ -1,13 +1,14 @@
 -- What a token spells is a field of its kind, and tokens with a fault spell none.
-use Rattle.std.proofs.Common.{◌≡◌, ℕ, suc, ◌+◌, ◌*◌, List, ◌∷◌, length, refl, sym, ap, ◌∙◌, subst, arith}
+use Rattle.std.proofs.Common.{◌≡◌, ℕ, suc, ◌+◌, ◌*◌, List, [], ◌∷◌, length, refl, sym, ap, ◌∙◌, subst, arith}
+use Rattle.std.proofs.Common.{inl, inr}
 use Rattle.std.proofs.Common.{true, false}
 use Rattle.std.specs.{Prelude.slice_index}
 use Rattle.domain_names.specs.{Name.{Name, IsName}, Wire.IsWire, Text.{NameText, root, of_labels}}
 use Rattle.domain_names.proofs.WireLemmas.{IsWire-wire_of}
-use Rattle.domain_types.specs.Fields.{IsField}
+use Rattle.domain_types.specs.Fields.{IsField, AreMany, none, one_more}
 use Rattle.domain_types.specs.Spelling.{NameToken, at_origin, absolute, relative, NameField}
 use Rattle.domain_types.specs.Spelling.{PlainText, FieldSpelling}
-use Rattle.domain_types.specs.Reading.{TokenText, SpellsField, TokenFault}
+use Rattle.domain_types.specs.Reading.{TokenText, SpellsField, TokenFault, ManyTexts, ManyFault}
 use Rattle.domain_types.specs.Reading.{BaseFault, BaseTexts}
 use Rattle.domain_types.specs.declared.field.{Field.Field, Tail.Tail}
 use Rattle.domain_types.specs.declared.field.Field.TheVariants as fields
@@ -62,6 +63,12 @@ field_valid origin fields.LoweredName text octets valid is = name_field origin t
 field_valid origin fields.Name text octets valid is = name_field origin text octets valid is
 field_valid origin field text octets valid is = plain_valid field text octets is
 
+pub many_valid : (origin : Name) (field : Field) (tokens : List TokenText) (octets : List ℕ) → IsName origin → ManyTexts origin field tokens octets
+    → AreMany field octets
+many_valid origin field [] octets valid is = subst (AreMany field) (sym is) none
+many_valid origin field (token ∷ tokens) octets valid is =
+    one_more octets is.0 is.1 is.2 (field_valid origin field token.octets is.0 valid is.3.text) (many_valid origin field tokens is.1 valid is.4)
+
 -- ---- tokens with a fault
 
 pub token_none : (origin : Name) (field : Field) (token : TokenText) (kind : DataFaultKind) (part : List ℕ) → TokenFault origin field token kind
@@ -77,3 +84,9 @@ base_none codec tail tokens place kinds.Missing octets wrong real is = omega (ar
 base_none codec tail tokens place (kinds.NotTail other) octets wrong real is = wrong.3 octets is
 base_none codec tail tokens place kinds.OutOfMemory octets wrong real is = real refl
 base_none codec tail tokens place kind octets wrong real is = wrong
+
+pub many_none : (origin : Name) (field : Field) (tokens : List TokenText) (place : ℕ) (kind : DataFaultKind) (octets : List ℕ)
+    → ManyFault origin field tokens place kind → (kind ≡ OutOfMemory → ⊥) → ManyTexts origin field tokens octets → ⊥
+many_none origin field [] place kind octets wrong real is = wrong
+many_none origin field (token ∷ tokens) place kind octets (inl here) real is = token_none origin field token kind is.0 here.1 real is.3
+many_none origin field (token ∷ tokens) place kind octets (inr later) real is = many_none origin field tokens later.1.0 kind is.1 later.1.2 real is.4

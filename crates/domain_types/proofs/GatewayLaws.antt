@@ -60,7 +60,7 @@ relay_is origin tokens octets valid is =
 -- ---- tokens with a fault
 
 -- one list has one first token
-one_first : (tokens first other : List TokenText) (x y : TokenText) → tokens ≡ x ∷ first → tokens ≡ y ∷ other → (x ≡ y) × (first ≡ other)
+pub one_first : (tokens first other : List TokenText) (x y : TokenText) → tokens ≡ x ∷ first → tokens ≡ y ∷ other → (x ≡ y) × (first ≡ other)
 one_first tokens first other x y is also =
     let both : ◌≡◌ {A = List TokenText} (x ∷ first) (y ∷ other) = sym is ∙ also in (cc, ap (drop 1) both)
 
@@ -83,7 +83,7 @@ one_octet origin field tokens first other x y one is also =
     let same = one_first tokens first other is.token also.token is.parts also.parts in
     (one is.token x y is.holds (subst (λ t. SpellsField origin field t (y ∷ [])) (sym same.0) also.holds), same.1)
 
-octet_none : (origin : Name) (field : Field) (tokens left : List TokenText) (kind : DataFaultKind) (n : ℕ)
+pub octet_none : (origin : Name) (field : Field) (tokens left : List TokenText) (kind : DataFaultKind) (n : ℕ)
     → FirstTokenFault (TokenFault origin field) tokens kind → (kind ≡ OutOfMemory → ⊥) → FirstOctet origin field tokens n left → ⊥
 octet_none origin field [] left kind n wrong real is = absurd (omega (arith, ap length is.parts))
 octet_none origin field (token ∷ tokens) left kind n wrong real is =

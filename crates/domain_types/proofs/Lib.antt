@@ -6,6 +6,7 @@ pub mod SpellLemmas
 pub mod ReadLemmas
 pub mod FieldLaws
 pub mod GatewayLaws
+pub mod IdentityLaws
 pub mod ReadLaws
 pub mod TypeSetLemmas
 pub mod TtlLemmas

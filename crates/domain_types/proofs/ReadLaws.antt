@@ -4,8 +4,8 @@ use Rattle.std.proofs.Common.{length-append, inl}
 use Rattle.std.proofs.Common.{inr, true, false, ◌⊎◌}
 use Rattle.std.proofs.lemmas.{List.{append-nil}}
 use Rattle.domain_names.specs.{Name.{Name, IsName}}
-use Rattle.domain_types.specs.Fields.{IsField, AreMany, none, one_more, IsTail, AreFieldOctets}
-use Rattle.domain_types.specs.Reading.{TokenText, ManyTexts, ManyFault, TailTexts, TailFault, LayoutTexts, LayoutFault}
+use Rattle.domain_types.specs.Fields.{IsField, IsTail, AreFieldOctets}
+use Rattle.domain_types.specs.Reading.{TokenText, ManyTexts, TailTexts, TailFault, LayoutTexts, LayoutFault}
 use Rattle.domain_types.specs.Reading.{QuotedFault, QuotedTexts, GenericTexts, GenericTextsFault, DataTexts, generic, own}
 use Rattle.domain_types.specs.Reading.{DataTextFault, in_generic, in_own, SpellsType, TypeTokenFault, MnemonicTexts, MnemonicFault}
 use Rattle.domain_bitmap.{specs.{Blocks.IsBitmap, Text.is_among}, proofs.BitmapLemmas.IsBitmap-bitmap_octets}
@@ -22,16 +22,11 @@ use Rattle.domain_svcb.specs.Parameters.{AreParameters, AddsParameter, AreGather
 use Rattle.domain_svcb.proofs.GatherLemmas.{gathered_are, refused_adds_none, one_after}
 use Rattle.domain_svcb.specs.Values.{Parameter}
 use Rattle.domain_types.proofs.DataLemmas.{field_some}
-use Rattle.domain_types.proofs.FieldLaws.{field_valid, token_none, base_none}
+use Rattle.domain_types.proofs.FieldLaws.{field_valid, many_valid, token_none, many_none, base_none}
+use Rattle.domain_types.proofs.IdentityLaws.{identity_is, identity_none}
 use Rattle.domain_types.proofs.GatewayLaws.{gateway_begins, relay_is, gateway_none, relay_none}
 
 -- ---- what tokens spell is data
-
-many_valid : (origin : Name) (field : Field) (tokens : List TokenText) (octets : List ℕ) → IsName origin → ManyTexts origin field tokens octets
-    → AreMany field octets
-many_valid origin field [] octets valid is = subst (AreMany field) (sym is) none
-many_valid origin field (token ∷ tokens) octets valid is =
-    one_more octets is.0 is.1 is.2 (field_valid origin field token.octets is.0 valid is.3.text) (many_valid origin field tokens is.1 valid is.4)
 
 some_octets : (origin : Name) (field : Field) (tokens : List TokenText) (octets : List ℕ) → IsName origin → 0 < length tokens
     → ManyTexts origin field tokens octets → 0 < length octets
@@ -58,6 +53,7 @@ tail_valid origin tails.Parameters tokens octets valid is =
     subst (AreParameters 0) (sym is.wire) (gathered_are (token_texts tokens) is.all is.gathered)
 tail_valid origin tails.GatewayAndKey tokens octets valid is = gateway_begins origin tokens octets valid is
 tail_valid origin tails.FlagAndRelay tokens octets valid is = relay_is origin tokens octets valid is
+tail_valid origin tails.IdentityAndServers tokens octets valid is = identity_is origin tokens octets valid is
 tail_valid origin (tails.Many field) tokens octets valid is = many_valid origin field tokens octets valid is
 tail_valid origin (tails.AtLeastOne field) tokens octets valid is =
     (some_octets origin field tokens octets valid is.0 is.1, many_valid origin field tokens octets valid is.1)
@@ -75,12 +71,6 @@ data_valid origin t tokens octets valid (generic marked spelled is) = is
 data_valid origin t tokens octets valid (own other is) = layout_valid origin (fields_of t) (tail_of t) tokens octets valid is
 
 -- ---- tokens with a fault
-
-many_none : (origin : Name) (field : Field) (tokens : List TokenText) (place : ℕ) (kind : DataFaultKind) (octets : List ℕ)
-    → ManyFault origin field tokens place kind → (kind ≡ OutOfMemory → ⊥) → ManyTexts origin field tokens octets → ⊥
-many_none origin field [] place kind octets wrong real is = wrong
-many_none origin field (token ∷ tokens) place kind octets (inl here) real is = token_none origin field token kind is.0 here.1 real is.3
-many_none origin field (token ∷ tokens) place kind octets (inr later) real is = many_none origin field tokens later.1.0 kind is.1 later.1.2 real is.4
 
 quoted_none : (tokens : List TokenText) (place : ℕ) (kind : DataFaultKind) (octets : List ℕ) → QuotedFault tokens place kind
     → (kind ≡ OutOfMemory → ⊥) → QuotedTexts tokens octets → ⊥
@@ -153,6 +143,7 @@ tail_none origin tails.Parameters tokens place kind octets wrong real is =
     parameters_none tokens [] is.all place kind wrong real is.unquoted is.gathered is.consistent
 tail_none origin tails.GatewayAndKey tokens place kind octets wrong real is = gateway_none origin tokens place kind octets wrong real is
 tail_none origin tails.FlagAndRelay tokens place kind octets wrong real is = relay_none origin tokens place kind octets wrong real is
+tail_none origin tails.IdentityAndServers tokens place kind octets wrong real is = identity_none origin tokens place kind octets wrong real is
 tail_none origin (tails.Many field) tokens place kind octets wrong real is = many_none origin field tokens place kind octets wrong real is
 tail_none origin (tails.AtLeastOne field) tokens place kind octets wrong real is = least_none origin field tokens place kind octets wrong real is
 tail_none origin (tails.AtMostOne field) tokens place kind octets wrong real is = most_none origin field tokens place kind octets wrong real is

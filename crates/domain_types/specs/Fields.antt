@@ -9,7 +9,7 @@ use Rattle.domain_types.specs.declared.field.Field.{Field}
 use Rattle.domain_types.specs.declared.field.Field.TheVariants as fields
 use Rattle.domain_types.specs.declared.field.Shape.{Shape}
 use Rattle.domain_types.specs.declared.field.Shape.TheVariants.{Exactly, Domain, Counted, Word, AfterTwo, AfterOne, TwoCounted, CountedInBits}
-use Rattle.domain_types.specs.declared.field.Tail.{Tail, TheVariants.{Nothing, Base16, Base64, Quoted, Opaque, Types, Parameters, GatewayAndKey, FlagAndRelay, Many, AtLeastOne, AtMostOne}}
+use Rattle.domain_types.specs.declared.field.Tail.{Tail, TheVariants.{Nothing, Base16, Base64, Quoted, Opaque, Types, Parameters, GatewayAndKey, FlagAndRelay, IdentityAndServers, Many, AtLeastOne, AtMostOne}}
 
 -- ---- the fields, by their shapes
 
@@ -93,6 +93,14 @@ abbrev pub BeginsWithField : Field → Octets → Type 0
 BeginsWithField field octets =
     (part : Octets) × (after : Octets) × (octets ≡ part ++ after) × IsField field part
 
+-- the octets are a host identity, and then any number of names
+pub record IsIdentity (octets : Octets) : Type 0 where
+  pub part : Octets
+  pub after : Octets
+  pub parts : octets ≡ part ++ after
+  pub identity : IsField fields.HostIdentity part
+  pub servers : AreMany fields.Name after
+
 -- the octets are this tail
 abbrev pub IsTail : Tail → Octets → Type 0
 IsTail Nothing octets = octets ≡ []
@@ -104,6 +112,7 @@ IsTail Types octets = IsBitmap octets
 IsTail Parameters octets = AreParameters 0 octets
 IsTail GatewayAndKey octets = BeginsWithField fields.Gateway octets
 IsTail FlagAndRelay octets = IsField fields.Relay octets
+IsTail IdentityAndServers octets = IsIdentity octets
 IsTail (Many field) octets = AreMany field octets
 IsTail (AtLeastOne field) octets = (0 < length octets) × AreMany field octets
 IsTail (AtMostOne field) octets = (octets ≡ []) ⊎ IsField field octets

@@ -2,7 +2,7 @@
 -- 1035, section 5.1; RFC 3597, section 5).
 use Rattle.std.specs.Prelude.{◌≡◌, ◌≢◌, ℕ, ◌+◌, ◌*◌, ◌<◌, ◌≤◌, ◌⊎◌, ◌&&◌, ◌||◌, ◌==◌, Bool, true, false, not, if◌then◌else◌, List, [], ◌∷◌, ◌++◌, length}
 use Rattle.std.specs.Prelude.{map, drop, codes, Option, Some, None}
-use Rattle.std.specs.List.{concat, AllByRecursion}
+use Rattle.std.specs.{List.{concat, AllByRecursion}, Int.{w16, to_be_bytes}}
 use Rattle.domain_octets.specs.{Octets.Octets, Text.{quote, backslash}}
 use Rattle.domain_names.specs.Name.{Name}
 use Rattle.domain_base.specs.{Scan.{IsNumber}, Types.Rtypes}
@@ -288,6 +288,74 @@ pub data RelayFault (origin : Name) (tokens : List TokenText) (place : ℕ) (kin
       → kind ≡ Extra → RelayFault origin tokens place kind
   relay_memory : kind ≡ OutOfMemory → RelayFault origin tokens place kind
 
+-- ---- host identities
+
+-- the token, without quotes, is a text of the codec for at most this many octets
+pub record SpellsBase (codec : Codec) (limit : ℕ) (token : TokenText) (octets : Octets)
+    : Type 0 where
+  pub unquoted : token.is_quoted ≡ false
+  pub decodes : Decodes codec token.octets octets
+  pub fits : length octets ≤ limit
+
+-- the fault of a token that has to be such a text
+abbrev pub BaseTokenFault : Codec → ℕ → Tail → TokenText → DataFaultKind → Type 0
+BaseTokenFault codec limit tail token Quoted = token.is_quoted ≡ true
+BaseTokenFault codec limit tail token (NotTail other) =
+    (other ≡ tail) × ((octets : Octets) → SpellsBase codec limit token octets → ⊥)
+BaseTokenFault codec limit tail token OutOfMemory = Unit {0}
+BaseTokenFault codec limit tail token kind = ⊥
+
+-- the first token is a host identity tag, or a public key
+abbrev pub FirstTag : List TokenText → Octets → List TokenText → Type 0
+FirstTag tokens tag left =
+    FirstToken (λ token. SpellsBase codecs.Base16 255 token tag) tokens left
+
+abbrev pub FirstKey : List TokenText → Octets → List TokenText → Type 0
+FirstKey tokens key left =
+    FirstToken (λ token. SpellsBase codecs.Base64 65535 token key) tokens left
+
+-- the tokens begin with an algorithm, a host identity tag and a public key
+pub record IdentityHead (origin : Name) (tokens : List TokenText) (algorithm : ℕ)
+    (tag key : Octets) (left : List TokenText) : Type 0 where
+  pub after_algorithm : List TokenText
+  pub of_algorithm : FirstOctet origin Number8 tokens algorithm after_algorithm
+  pub after_tag : List TokenText
+  pub of_tag : FirstTag after_algorithm tag after_tag
+  pub of_key : FirstKey after_tag key left
+
+-- the tokens spell these, and then names of rendezvous servers; on the wire the lengths of the tag
+-- and of the key come first (RFC 8005, sections 5 and 6)
+pub record IdentityTexts (origin : Name) (tokens : List TokenText) (octets : Octets)
+    : Type 0 where
+  pub algorithm : ℕ
+  pub tag : Octets
+  pub key : Octets
+  pub left : List TokenText
+  pub head : IdentityHead origin tokens algorithm tag key left
+  pub servers : Octets
+  pub of_servers : ManyTexts origin fields.Name left servers
+  pub wire : octets ≡ ((length tag ∷ algorithm ∷ to_be_bytes w16 (length key)) ++ (tag ++ key))
+      ++ servers
+
+-- the first fault of tokens that have to spell these, by its place
+pub data IdentityFault (origin : Name) (tokens : List TokenText) (place : ℕ)
+    (kind : DataFaultKind) : Type 0 where
+  at_identity : place ≡ 0 → FirstTokenFault (TokenFault origin Number8) tokens kind
+      → IdentityFault origin tokens place kind
+  at_tag : (algorithm : ℕ) (after_algorithm : List TokenText) → place ≡ 1
+      → FirstOctet origin Number8 tokens algorithm after_algorithm
+      → FirstTokenFault (BaseTokenFault codecs.Base16 255 tails.Base16) after_algorithm kind
+      → IdentityFault origin tokens place kind
+  at_key : (algorithm : ℕ) (tag : Octets) (after_algorithm after_tag : List TokenText) → place ≡ 2
+      → FirstOctet origin Number8 tokens algorithm after_algorithm
+      → FirstTag after_algorithm tag after_tag
+      → FirstTokenFault (BaseTokenFault codecs.Base64 65535 tails.Base64) after_tag kind
+      → IdentityFault origin tokens place kind
+  at_server : (algorithm : ℕ) (tag key : Octets) (left : List TokenText) (before : ℕ)
+      → IdentityHead origin tokens algorithm tag key left → place ≡ 3 + before
+      → ManyFault origin fields.Name left before kind → IdentityFault origin tokens place kind
+  identity_memory : kind ≡ OutOfMemory → IdentityFault origin tokens place kind
+
 -- ---- all tails
 
 -- the tokens spell the octets of this tail; the kinds without a text of their own are spelled by no
@@ -302,6 +370,7 @@ TailTexts origin tails.Types tokens octets = BitmapTexts tokens octets
 TailTexts origin tails.Parameters tokens octets = ParametersTexts tokens octets
 TailTexts origin tails.GatewayAndKey tokens octets = GatewayTexts origin tokens octets
 TailTexts origin tails.FlagAndRelay tokens octets = RelayTexts origin tokens octets
+TailTexts origin tails.IdentityAndServers tokens octets = IdentityTexts origin tokens octets
 TailTexts origin (tails.Many field) tokens octets = ManyTexts origin field tokens octets
 TailTexts origin (tails.AtLeastOne field) tokens octets =
     (0 < length tokens) × ManyTexts origin field tokens octets
@@ -381,6 +450,8 @@ TailFault origin tails.Types tokens place kind = MnemonicFault tokens place kind
 TailFault origin tails.Parameters tokens place kind = ParametersFault [] tokens place kind
 TailFault origin tails.GatewayAndKey tokens place kind = GatewayFault origin tokens place kind
 TailFault origin tails.FlagAndRelay tokens place kind = RelayFault origin tokens place kind
+TailFault origin tails.IdentityAndServers tokens place kind =
+    IdentityFault origin tokens place kind
 TailFault origin (tails.Many field) tokens place kind = ManyFault origin field tokens place kind
 TailFault origin (tails.AtLeastOne field) tokens place kind =
     ((place ≡ 0) × (kind ≡ Missing) × (tokens ≡ [])) ⊎ ManyFault origin field tokens place kind

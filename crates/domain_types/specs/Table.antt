@@ -4,8 +4,8 @@ use Rattle.domain_octets.specs.Octets.{Octets}
 use Rattle.domain_base.specs.Numbers.{Named, NumberText, name_of}
 use Rattle.domain_types.specs.declared.field.Field.{Field, TheVariants.{Number8, Number16, Number32, Algorithm, Scheme, CertificateType, RecordType}}
 use Rattle.domain_types.specs.declared.field.Field.TheVariants.{Period, Time, LoweredName, Name, Ipv4, Ipv6, CharacterString, Tag, Salt, HashedOwner}
-use Rattle.domain_types.specs.declared.field.Field.TheVariants.{Locator64, Eui48, Eui64, Location, HostIdentity, Prefix}
-use Rattle.domain_types.specs.declared.field.Tail.{Tail, TheVariants.{Nothing, Base16, Base64, Quoted, Opaque, Types, Parameters, GatewayAndKey, FlagAndRelay, Many, AtLeastOne, AtMostOne}}
+use Rattle.domain_types.specs.declared.field.Field.TheVariants.{Locator64, Eui48, Eui64, Location, Prefix}
+use Rattle.domain_types.specs.declared.field.Tail.{Tail, TheVariants.{Nothing, Base16, Base64, Quoted, Opaque, Types, Parameters, GatewayAndKey, FlagAndRelay, IdentityAndServers, Many, AtLeastOne, AtMostOne}}
 use Rattle.domain_types.specs.declared.table.Row.{Row}
 
 -- a type: its number, its mnemonic, the fields of its data, and what follows them
@@ -91,7 +91,7 @@ type_rows =
     ∷ type_of 45 (codes "IPSECKEY") (Number8 ∷ []) GatewayAndKey
     ∷ type_of 49 (codes "DHCID") [] Base64
     ∷ type_of 53 (codes "SMIMEA") (Number8 ∷ Number8 ∷ Number8 ∷ []) Base16
-    ∷ type_of 55 (codes "HIP") (HostIdentity ∷ []) (Many Name)
+    ∷ type_of 55 (codes "HIP") [] IdentityAndServers
     ∷ type_of 56 (codes "NINFO") [] (AtLeastOne CharacterString)
     ∷ type_of 57 (codes "RKEY") (Number16 ∷ Number8 ∷ Algorithm ∷ []) Base64
     ∷ type_of 58 (codes "TALINK") (Name ∷ Name ∷ []) Nothing

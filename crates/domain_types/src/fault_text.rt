@@ -50,6 +50,7 @@ impl fmt::Display for Tail {
             Tail::Parameters => f.write_str("parameters of a service"),
             Tail::GatewayAndKey => f.write_str("a gateway and its key"),
             Tail::FlagAndRelay => f.write_str("a relay"),
+            Tail::IdentityAndServers => f.write_str("a host identity"),
             Tail::Many(field) | Tail::AtLeastOne(field) | Tail::AtMostOne(field) => {
                 write!(f, "{field}")
             }

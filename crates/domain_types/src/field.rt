@@ -106,6 +106,9 @@ pub enum Tail {
     GatewayAndKey,
     /// The bit for discovery, the type of a relay, and the relay (RFC 8777, section 4.3).
     FlagAndRelay,
+    /// An algorithm, a host identity tag in Base 16, a public key in Base 64, and any number of
+    /// rendezvous servers (RFC 8005, section 6).
+    IdentityAndServers,
     /// Any number of fields of a kind.
     Many(Field),
     /// One or more fields of a kind.

@@ -30,7 +30,7 @@ struct Head {
 }
 
 /// Returns the octet that the first token spells, as a field of one octet.
-fn first_octet(
+pub(crate) fn first_octet(
     alloc: Global,
     field: Field,
     tokens: &[Token<'_>],
@@ -172,7 +172,7 @@ fn put_key(
 }
 
 /// Appends two slices.
-fn append_both(front: &[u8], back: &[u8], out: &mut Vec<u8>) -> Result<(), DataFault>
+pub(crate) fn append_both(front: &[u8], back: &[u8], out: &mut Vec<u8>) -> Result<(), DataFault>
     ensures ok { OnOk result (out.new.items ≡ out.old.items ++ (front.now ++ back.now)) }
     ensures err { IfErr result (λ e. (e.token ≡ 0) × (e.kind ≡ DataFaultKind.OutOfMemory)) }
     ensures grows { Grows out.old.items out.new.items }

@@ -28,6 +28,7 @@ mod fault_text;
 mod field;
 mod gateway;
 mod hashed;
+mod identity;
 pub mod laws;
 mod lookup;
 mod measure;

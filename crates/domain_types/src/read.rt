@@ -20,6 +20,7 @@ use crate::bitmap::put_types;
 use crate::data::is_data;
 use crate::field::{Field, Tail};
 use crate::gateway::{put_gateway, put_relay};
+use crate::identity::put_identity;
 use crate::lookup::row_of;
 use crate::parameters::put_parameters;
 use crate::spell::{Part, spell};
@@ -85,7 +86,7 @@ fn put_field(
 }
 
 /// Appends the fields of one kind that tokens spell, one each.
-fn put_many(
+pub(crate) fn put_many(
     alloc: Global,
     field: Field,
     tokens: &[Token<'_>],
@@ -154,7 +155,7 @@ fn join_tokens(alloc: Global, tokens: &[Token<'_>]) -> Result<Option<Vec<u8>>, A
 }
 
 /// Returns the octets that a text in Base 16 encodes.
-fn decode16(alloc: Global, text: &[u8]) -> Result<Vec<u8>, SpellFault>
+pub(crate) fn decode16(alloc: Global, text: &[u8]) -> Result<Vec<u8>, SpellFault>
     ensures ok { IfOk result (λ octets. Decodes codecs.Base16 text.now octets.items) }
     ensures err { IfErr result (SpellsNothing (Decodes codecs.Base16 text.now)) }
 {
@@ -166,7 +167,7 @@ fn decode16(alloc: Global, text: &[u8]) -> Result<Vec<u8>, SpellFault>
 }
 
 /// Returns the octets that a text in Base 64 encodes.
-fn decode64(alloc: Global, text: &[u8]) -> Result<Vec<u8>, SpellFault>
+pub(crate) fn decode64(alloc: Global, text: &[u8]) -> Result<Vec<u8>, SpellFault>
     ensures ok { IfOk result (λ octets. Decodes codecs.Base64 text.now octets.items) }
     ensures err { IfErr result (SpellsNothing (Decodes codecs.Base64 text.now)) }
 {
@@ -197,7 +198,7 @@ pub(crate) fn first(kind: DataFaultKind) -> DataFault
 }
 
 /// Returns the fault of tokens that do not spell a tail.
-fn fault_of(fault: SpellFault, tail: Tail) -> DataFault
+pub(crate) fn fault_of(fault: SpellFault, tail: Tail) -> DataFault
     ensures { (result.token ≡ 0) × (result.kind ≡ tail_kind fault tail) }
 {
     match fault {
@@ -330,6 +331,7 @@ fn put_tail(
         Tail::Parameters => put_parameters(alloc, tokens, out),
         Tail::GatewayAndKey => put_gateway(alloc, tokens, origin, out),
         Tail::FlagAndRelay => put_relay(alloc, tokens, origin, out),
+        Tail::IdentityAndServers => put_identity(alloc, tokens, origin, out),
         Tail::Many(field) => put_many(alloc, field, tokens, origin, out),
         Tail::AtLeastOne(_) if tokens.is_empty() => Err(first(DataFaultKind::Missing)),
         Tail::AtLeastOne(field) => put_many(alloc, field, tokens, origin, out),

@@ -156,7 +156,7 @@ pub(crate) fn rows() -> &'static [Row]
         Row(45, "IPSECKEY", &[Number8], GatewayAndKey),
         Row(49, "DHCID", &[], Base64),
         Row(53, "SMIMEA", &[Number8, Number8, Number8], Base16),
-        Row(55, "HIP", &[HostIdentity], Many(Name)),
+        Row(55, "HIP", &[], IdentityAndServers),
         Row(56, "NINFO", &[], AtLeastOne(CharacterString)),
         Row(57, "RKEY", &[Number16, Number8, Algorithm], Base64),
         Row(58, "TALINK", &[Name, Name], Nothing),
