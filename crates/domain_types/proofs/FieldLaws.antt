@@ -1,5 +1,5 @@
 -- What a token spells is a field of its kind, and tokens with a fault spell none.
-use Rattle.std.proofs.Common.{◌≡◌, ℕ, suc, ◌+◌, ◌*◌, List, [], ◌∷◌, length, refl, sym, ap, ◌∙◌, subst, arith}
+use Rattle.std.proofs.Common.{◌≡◌, ℕ, suc, ◌+◌, List, [], ◌∷◌, length, refl, sym, ap, ◌∙◌, subst, arith}
 use Rattle.std.proofs.Common.{inl, inr}
 use Rattle.std.proofs.Common.{true, false}
 use Rattle.std.specs.{Prelude.slice_index}
@@ -15,7 +15,7 @@ use Rattle.domain_types.specs.declared.field.Field.TheVariants as fields
 use Rattle.domain_types.specs.declared.token.DataFaultKind.{DataFaultKind, TheVariants.OutOfMemory}
 use Rattle.domain_types.specs.declared.token.DataFaultKind.TheVariants as kinds
 use Rattle.domain_codecs.specs.declared.codec.Codec.{Codec}
-use Rattle.domain_svcb.proofs.GatherLemmas.{length-octets_of, segments_eight}
+use Rattle.domain_types.proofs.PrefixLemmas.{long_size, prefix_size}
 
 -- ---- what a token spells is a field of the kind
 
@@ -47,8 +47,7 @@ plain_valid fields.GatewayType text octets (n, number, few, is) = ap length is
 plain_valid fields.Period text octets (n, spelled, is) = ap length is
 plain_valid fields.Time text octets (n, spelled, is) = ap length is
 plain_valid fields.Ipv4 text octets is = ap length is.value
-plain_valid fields.Ipv6 text octets (a, spelled, is) =
-    ap length is ∙ length-octets_of a.segments ∙ ap (λ n. 2 * n) (segments_eight text a.segments spelled)
+plain_valid fields.Ipv6 text octets is = long_size text octets is
 plain_valid fields.CharacterString text octets (string, spelled, fits, is) = counted_valid string octets is
 plain_valid fields.Salt text octets (salt, spelled, is) = counted_valid salt octets is
 plain_valid fields.HashedOwner text octets (hash, spelled, some, is) = counted_valid hash octets is
@@ -56,6 +55,7 @@ plain_valid fields.Tag text octets (is, fits, word) = word
 plain_valid fields.Locator64 text octets is = ap length is.value
 plain_valid fields.Eui48 text octets is = is.full
 plain_valid fields.Eui64 text octets is = is.full
+plain_valid fields.Prefix text octets is = prefix_size text octets is
 plain_valid field text octets is = absurd (is)
 
 pub field_valid : (origin : Name) (field : Field) (text octets : List ℕ) → IsName origin → FieldSpelling origin field text octets → IsField field octets

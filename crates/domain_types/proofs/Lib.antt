@@ -4,6 +4,7 @@ pub mod DataLemmas
 pub mod TableLemmas
 pub mod SpellLemmas
 pub mod ReadLemmas
+pub mod PrefixLemmas
 pub mod FieldLaws
 pub mod GatewayLaws
 pub mod IdentityLaws

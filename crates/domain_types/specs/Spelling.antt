@@ -1,15 +1,14 @@
 -- The presentation format of fields: the octets that a token spells (RFC 1035, section 5.1).
 use Rattle.std.specs.Prelude.{◌≡◌, ◌≢◌, ℕ, ◌<◌, ◌≤◌, ◌==◌, Bool, true, false, if◌then◌else◌, [], ◌∷◌, ◌++◌}
 use Rattle.std.specs.Prelude.{length, fold}
-use Rattle.std.specs.{Int.{w16, w32, to_be_bytes}, Net.{Grammar.{IsDotted, IsIpv6Text}, Addr.ipv6_octets}}
-use Rattle.std.specs.declared.net.ipv6_addr.Ipv6Addr.{Ipv6Addr}
+use Rattle.std.specs.{Int.{w16, w32, to_be_bytes}, Net.Grammar.IsDotted}
 use Rattle.domain_octets.specs.{Octets.Octets, Text.{dot, at_sign, backslash}}
 use Rattle.domain_names.specs.{Name.{Name, IsName, wire_of}, Text.NameText}
 use Rattle.domain_base.specs.Scan.{IsNumber}
 use Rattle.domain_bitmap.specs.Text.{SaltText, OwnerHashText}
 use Rattle.domain_svcb.specs.Strings.{StringText}
 use Rattle.domain_types.specs.{Table.MnemonicText, Fields.IsTag, Ttls.ttl_text, Times.StampText}
-use Rattle.domain_types.specs.Addresses.{EuiText, LocatorText}
+use Rattle.domain_types.specs.{Addresses.{LongAddressText, EuiText, LocatorText}, Prefixes.PrefixText}
 use Rattle.domain_types.specs.Mnemonics.{ByteOrMnemonic, ShortOrMnemonic, algorithm_names, certificate_names, scheme_names}
 use Rattle.domain_types.specs.declared.ttl.TtlText.{TheVariants.Seconds}
 use Rattle.domain_types.specs.declared.field.Field.{Field}
@@ -67,10 +66,6 @@ LimitedText limit text octets =
 abbrev pub TypeField : Octets → Octets → Type 0
 TypeField text octets = (t : ℕ) × MnemonicText text t × (octets ≡ to_be_bytes w16 t)
 
--- an IPv6 address (RFC 4291, section 2.2)
-abbrev pub LongAddressText : Octets → Octets → Type 0
-LongAddressText text octets = (a : Ipv6Addr) × IsIpv6Text text a × (octets ≡ ipv6_octets a)
-
 -- a string of at most 255 octets, after its length
 abbrev pub StringField : Octets → Octets → Type 0
 StringField text octets =
@@ -124,6 +119,7 @@ PlainText fields.HashedOwner text octets = HashField text octets
 PlainText fields.Locator64 text octets = LocatorText text octets
 PlainText fields.Eui48 text octets = EuiText 6 text octets
 PlainText fields.Eui64 text octets = EuiText 8 text octets
+PlainText fields.Prefix text octets = PrefixText text octets
 PlainText _ text octets = ⊥
 
 -- the text spells the octets of a field of this kind

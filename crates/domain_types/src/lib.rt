@@ -35,6 +35,7 @@ mod measure;
 mod name;
 mod named;
 mod parameters;
+mod prefix;
 mod read;
 mod spell;
 mod table;

@@ -66,3 +66,6 @@ returns-in-Flag-clause-none c = rw c.in-Flag.is c.spell_limited.ensures.none
 
 pub returns-in-GatewayType-clause-none : goal.returns-in-GatewayType-clause-none
 returns-in-GatewayType-clause-none c = rw c.in-GatewayType.is c.spell_limited-in-GatewayType.ensures.none
+
+pub returns-in-Prefix-clause-none : goal.returns-in-Prefix-clause-none
+returns-in-Prefix-clause-none c = rw c.in-Prefix.is c.spell_prefix.ensures.none
