@@ -146,3 +146,25 @@ decimal_read places front number n text whole fraction zeros parts whole_digits 
       ∙ ap (digits_value_after 10 (digits_value_after 10 (digits_value_after 10 0 whole) fraction)) zeros_are
       ∙ sym (three_parts whole fraction (replicate (places - length fraction) 48));
 }
+
+-- ---- laws
+
+-- a text is one number
+pub one_decimal : (places n m : ℕ) (text : List ℕ) → DecimalText places text n → DecimalText places text m → n ≡ m
+one_decimal places n m text is also =
+    let split = decimal_is places text is.whole is.fraction m is.parts (digits_lack is.whole is.whole_digits) also in
+    is.value ∙ three_parts is.whole is.fraction (replicate (places - length is.fraction) 48) ∙ sym split.value
+
+letter_split : (c : ℕ) (text whole fraction : List ℕ) → text ≡ c ∷ [] → 10 ≤ digit_value c → (c ≡ 46 → ⊥) → SplitsAtPoint text whole fraction
+    → AllDigits 10 whole → ⊥
+letter_split c text [] fraction at letter other (no_point t w f is none) digits = omega (arith, ap length at, ap length is)
+letter_split c text [] fraction at letter other (at_point t w f parts) digits = other (heads_are c 46 [] fraction (sym at ∙ parts))
+letter_split c text (x ∷ whole) fraction at letter other (no_point t w f is none) digits =
+    let small : digit_value c < 10 = subst (λ d. digit_value d < 10) (heads_are x c whole [] (sym is ∙ at)) digits.0 in omega (arith, letter, small)
+letter_split c text (x ∷ whole) fraction at letter other (at_point t w f parts) digits =
+    let small : digit_value c < 10 = subst (λ d. digit_value d < 10) (heads_are x c (whole ++ 46 ∷ fraction) [] (sym parts ∙ at)) digits.0 in
+    omega (arith, letter, small)
+
+-- a letter is no number
+pub no_letter : (c places n : ℕ) (text : List ℕ) → text ≡ c ∷ [] → 10 ≤ digit_value c → (c ≡ 46 → ⊥) → DecimalText places text n → ⊥
+no_letter c places n text at letter other is = letter_split c text is.whole is.fraction at letter other is.parts is.whole_digits

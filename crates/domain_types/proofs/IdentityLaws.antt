@@ -49,7 +49,7 @@ first_base_none codec limit tail (token ∷ tokens) left kind octets wrong real 
     base_token_none codec limit tail token kind octets wrong real (subst (λ t. SpellsBase codec limit t octets) (sym same.0) is.holds)
 
 -- what follows the first token is known
-one_left : (P Q : TokenText → Type 0) (tokens first other : List TokenText) → FirstToken P tokens first → FirstToken Q tokens other → first ≡ other
+pub one_left : (P Q : TokenText → Type 0) (tokens first other : List TokenText) → FirstToken P tokens first → FirstToken Q tokens other → first ≡ other
 one_left P Q tokens first other is also = (one_first tokens first other is.token also.token is.parts also.parts).1
 
 identity_head_left : (origin : Name) (tokens left other : List TokenText) (a x : ℕ) (tag key also_tag also_key : List ℕ)

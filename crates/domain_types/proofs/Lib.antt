@@ -8,6 +8,8 @@ pub mod PrefixLemmas
 pub mod FieldLaws
 pub mod GatewayLaws
 pub mod IdentityLaws
+pub mod LocationLemmas
+pub mod LocationLaws
 pub mod ReadLaws
 pub mod TypeSetLemmas
 pub mod TtlLemmas

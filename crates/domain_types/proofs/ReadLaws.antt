@@ -24,6 +24,7 @@ use Rattle.domain_svcb.specs.Values.{Parameter}
 use Rattle.domain_types.proofs.DataLemmas.{field_some}
 use Rattle.domain_types.proofs.FieldLaws.{field_valid, many_valid, token_none, many_none, base_none}
 use Rattle.domain_types.proofs.IdentityLaws.{identity_is, identity_none}
+use Rattle.domain_types.proofs.LocationLaws.{location_is, location_none}
 use Rattle.domain_types.proofs.GatewayLaws.{gateway_begins, relay_is, gateway_none, relay_none}
 
 -- ---- what tokens spell is data
@@ -54,6 +55,7 @@ tail_valid origin tails.Parameters tokens octets valid is =
 tail_valid origin tails.GatewayAndKey tokens octets valid is = gateway_begins origin tokens octets valid is
 tail_valid origin tails.FlagAndRelay tokens octets valid is = relay_is origin tokens octets valid is
 tail_valid origin tails.IdentityAndServers tokens octets valid is = identity_is origin tokens octets valid is
+tail_valid origin tails.Coordinates tokens octets valid is = location_is tokens octets is
 tail_valid origin (tails.Many field) tokens octets valid is = many_valid origin field tokens octets valid is
 tail_valid origin (tails.AtLeastOne field) tokens octets valid is =
     (some_octets origin field tokens octets valid is.0 is.1, many_valid origin field tokens octets valid is.1)
@@ -144,6 +146,7 @@ tail_none origin tails.Parameters tokens place kind octets wrong real is =
 tail_none origin tails.GatewayAndKey tokens place kind octets wrong real is = gateway_none origin tokens place kind octets wrong real is
 tail_none origin tails.FlagAndRelay tokens place kind octets wrong real is = relay_none origin tokens place kind octets wrong real is
 tail_none origin tails.IdentityAndServers tokens place kind octets wrong real is = identity_none origin tokens place kind octets wrong real is
+tail_none origin tails.Coordinates tokens place kind octets wrong real is = location_none tokens place kind octets wrong real is
 tail_none origin (tails.Many field) tokens place kind octets wrong real is = many_none origin field tokens place kind octets wrong real is
 tail_none origin (tails.AtLeastOne field) tokens place kind octets wrong real is = least_none origin field tokens place kind octets wrong real is
 tail_none origin (tails.AtMostOne field) tokens place kind octets wrong real is = most_none origin field tokens place kind octets wrong real is

@@ -9,7 +9,7 @@ use Rattle.domain_types.specs.declared.field.Field.{Field}
 use Rattle.domain_types.specs.declared.field.Field.TheVariants as fields
 use Rattle.domain_types.specs.declared.field.Shape.{Shape}
 use Rattle.domain_types.specs.declared.field.Shape.TheVariants.{Exactly, Domain, Counted, Word, AfterTwo, AfterOne, TwoCounted, CountedInBits}
-use Rattle.domain_types.specs.declared.field.Tail.{Tail, TheVariants.{Nothing, Base16, Base64, Quoted, Opaque, Types, Parameters, GatewayAndKey, FlagAndRelay, IdentityAndServers, Many, AtLeastOne, AtMostOne}}
+use Rattle.domain_types.specs.declared.field.Tail.{Tail, TheVariants.{Nothing, Base16, Base64, Quoted, Opaque, Types, Parameters, GatewayAndKey, FlagAndRelay, IdentityAndServers, Coordinates, Many, AtLeastOne, AtMostOne}}
 
 -- ---- the fields, by their shapes
 
@@ -113,6 +113,7 @@ IsTail Parameters octets = AreParameters 0 octets
 IsTail GatewayAndKey octets = BeginsWithField fields.Gateway octets
 IsTail FlagAndRelay octets = IsField fields.Relay octets
 IsTail IdentityAndServers octets = IsIdentity octets
+IsTail Coordinates octets = IsField fields.Location octets
 IsTail (Many field) octets = AreMany field octets
 IsTail (AtLeastOne field) octets = (0 < length octets) × AreMany field octets
 IsTail (AtMostOne field) octets = (octets ≡ []) ⊎ IsField field octets

@@ -1,8 +1,8 @@
 -- Data of a type in presentation format: the octets that tokens spell, and the first fault (RFC
 -- 1035, section 5.1; RFC 3597, section 5).
-use Rattle.std.specs.Prelude.{◌≡◌, ◌≢◌, ℕ, ◌+◌, ◌*◌, ◌<◌, ◌≤◌, ◌⊎◌, ◌&&◌, ◌||◌, ◌==◌, Bool, true, false, not, if◌then◌else◌, List, [], ◌∷◌, ◌++◌, length}
+use Rattle.std.specs.Prelude.{◌≡◌, ◌≢◌, ℕ, ◌+◌, ◌*◌, ◌^◌, ◌<◌, ◌≤◌, ◌⊎◌, ◌&&◌, ◌||◌, ◌==◌, Bool, true, false, not, if◌then◌else◌, List, [], ◌∷◌, ◌++◌, length}
 use Rattle.std.specs.Prelude.{map, drop, codes, Option, Some, None}
-use Rattle.std.specs.{List.{concat, AllByRecursion}, Int.{w16, to_be_bytes}}
+use Rattle.std.specs.{List.{concat, AllByRecursion}, Int.{w16, w32, to_be_bytes}}
 use Rattle.domain_octets.specs.{Octets.Octets, Text.{quote, backslash}}
 use Rattle.domain_names.specs.Name.{Name}
 use Rattle.domain_base.specs.{Scan.{IsNumber}, Types.Rtypes}
@@ -19,6 +19,9 @@ use Rattle.domain_svcb.specs.Parameters.{AddsParameter, RefusesParameter, AreGat
 use Rattle.domain_svcb.specs.declared.fault.SpellFault.{SpellFault}
 use Rattle.domain_svcb.specs.declared.fault.SpellFault.TheVariants as spell
 use Rattle.domain_svcb.specs.declared.fault.ParameterFault.TheVariants as parameter_fault
+use Rattle.domain_location.specs.{Decimals.DecimalText, Lengths.{AltitudeText, PrecisionText}}
+use Rattle.domain_types.specs.declared.location.Step.{Step}
+use Rattle.domain_types.specs.declared.location.Axis.{Axis}
 use Rattle.domain_types.specs.declared.token.Token.{Token}
 use Rattle.domain_types.specs.declared.token.DataFaultKind.{DataFaultKind}
 use Rattle.domain_types.specs.declared.token.DataFaultKind.TheVariants.{Missing, Extra, Quoted, NotField, NotTail, NotParameter, NoText, NotGeneric}
@@ -356,6 +359,174 @@ pub data IdentityFault (origin : Name) (tokens : List TokenText) (place : ℕ)
       → ManyFault origin fields.Name left before kind → IdentityFault origin tokens place kind
   identity_memory : kind ≡ OutOfMemory → IdentityFault origin tokens place kind
 
+-- ---- locations
+
+-- the steps of an angle, in thousandths of a second: degrees, minutes, and seconds with up to three
+-- digits after a point
+abbrev pub step_of : ℕ → ℕ → ℕ → Step
+step_of places unit most = record { places = places; unit = unit; most = most }
+
+abbrev pub degrees : Step
+degrees = step_of 0 3600000 180
+
+abbrev pub minutes : Step
+minutes = step_of 0 60000 59
+
+abbrev pub seconds : Step
+seconds = step_of 3 1 59999
+
+-- angles up to 90 degrees north and south, and up to 180 degrees east and west
+abbrev pub axis_of : ℕ → ℕ → ℕ → Axis
+axis_of most positive negative =
+    record { most = most; positive = positive; negative = negative }
+
+abbrev pub latitudes : Axis
+latitudes = axis_of (90 * 3600000) 78 83
+
+abbrev pub longitudes : Axis
+longitudes = axis_of (180 * 3600000) 69 87
+
+-- the token is the number of a step, which keeps the sum within the axis
+pub record SpellsStep (axis : Axis) (step : Step) (total : ℕ) (token : TokenText) (n : ℕ)
+    : Type 0 where
+  pub unquoted : token.is_quoted ≡ false
+  pub text : DecimalText step.places token.octets n
+  pub few : n ≤ step.most
+  pub within : total + step.unit * n ≤ axis.most
+
+-- the token is the letter of a side; the angle is counted from 2^31 (RFC 1876, section 2)
+pub data SpellsSide (axis : Axis) (total : ℕ) (token : TokenText) (angle : ℕ) : Type 0 where
+  positive_side : token.is_quoted ≡ false → token.octets ≡ axis.positive ∷ []
+      → angle ≡ 2 ^ 31 + total → SpellsSide axis total token angle
+  negative_side : token.is_quoted ≡ false → token.octets ≡ axis.negative ∷ []
+      → angle + total ≡ 2 ^ 31 → SpellsSide axis total token angle
+
+-- the tokens end an angle of this sum: with the letter of a side, or with the next step and an end
+abbrev pub AngleEnd : Axis → List Step → ℕ → List TokenText → ℕ → List TokenText → Type 0
+AngleEnd axis [] total tokens angle left =
+    FirstToken (λ token. SpellsSide axis total token angle) tokens left
+AngleEnd axis (step ∷ steps) total tokens angle left =
+    FirstToken (λ token. SpellsSide axis total token angle) tokens left
+    ⊎ ((n : ℕ) × (after : List TokenText)
+    × FirstToken (λ token. SpellsStep axis step total token n) tokens after
+    × AngleEnd axis steps (total + step.unit * n) after angle left)
+
+-- the fault of a token that has to have one of these meanings
+abbrev pub LocationTokenFault : (TokenText → Type 0) → TokenText → DataFaultKind → Type 0
+LocationTokenFault Spells token Quoted = token.is_quoted ≡ true
+LocationTokenFault Spells token (NotTail other) =
+    (other ≡ tails.Coordinates) × (Spells token → ⊥)
+LocationTokenFault Spells token kind = ⊥
+
+-- what a token can mean that goes on with an angle
+abbrev pub CanSide : Axis → ℕ → TokenText → Type 0
+CanSide axis total token = (angle : ℕ) × SpellsSide axis total token angle
+
+abbrev pub CanStep : Axis → Step → ℕ → TokenText → Type 0
+CanStep axis step total token = (n : ℕ) × SpellsStep axis step total token n
+
+-- the first fault of tokens that have to end an angle, by its place
+abbrev pub AngleEndFault : Axis → List Step → ℕ → List TokenText → ℕ → DataFaultKind → Type 0
+AngleEndFault axis [] total tokens place kind =
+    (place ≡ 0) × FirstTokenFault (LocationTokenFault (CanSide axis total)) tokens kind
+AngleEndFault axis (step ∷ steps) total tokens place kind =
+    ((place ≡ 0) × FirstTokenFault (LocationTokenFault (λ token.
+    CanSide axis total token ⊎ CanStep axis step total token)) tokens kind)
+    ⊎ ((n : ℕ) × (after : List TokenText)
+    × FirstToken (λ token. SpellsStep axis step total token n) tokens after
+    × ((before : ℕ) × (place ≡ before + 1)
+    × AngleEndFault axis steps (total + step.unit * n) after before kind))
+
+-- the tokens begin with an angle: degrees, and its end
+pub record AngleTexts (axis : Axis) (tokens : List TokenText) (angle : ℕ) (left : List TokenText)
+    : Type 0 where
+  pub n : ℕ
+  pub after : List TokenText
+  pub of_degrees : FirstToken (λ token. SpellsStep axis degrees 0 token n) tokens after
+  pub end : AngleEnd axis (minutes ∷ seconds ∷ []) (3600000 * n) after angle left
+
+-- the first fault of tokens that have to begin so, by its place
+pub data AngleFault (axis : Axis) (tokens : List TokenText) (place : ℕ) (kind : DataFaultKind)
+    : Type 0 where
+  at_degrees : place ≡ 0
+      → FirstTokenFault (LocationTokenFault (CanStep axis degrees 0)) tokens kind
+      → AngleFault axis tokens place kind
+  after_degrees : (n : ℕ) (after : List TokenText) (before : ℕ)
+      → FirstToken (λ token. SpellsStep axis degrees 0 token n) tokens after
+      → place ≡ 1 + before → AngleEndFault axis (minutes ∷ seconds ∷ []) (3600000 * n) after before kind
+      → AngleFault axis tokens place kind
+
+-- the token is an altitude, or a size or precision
+pub record SpellsAltitude (token : TokenText) (n : ℕ) : Type 0 where
+  pub unquoted : token.is_quoted ≡ false
+  pub text : AltitudeText token.octets n
+
+pub record SpellsPrecision (token : TokenText) (octet : ℕ) : Type 0 where
+  pub unquoted : token.is_quoted ≡ false
+  pub text : PrecisionText token.octets octet
+
+-- the tokens are precisions, and those that are missing have these defaults
+abbrev pub PrecisionsTexts : Octets → List TokenText → Octets → Type 0
+PrecisionsTexts defaults [] octets = octets ≡ defaults
+PrecisionsTexts [] (token ∷ tokens) octets = ⊥
+PrecisionsTexts (c ∷ defaults) (token ∷ tokens) octets =
+    (octet : ℕ) × (more : Octets) × (octets ≡ octet ∷ more) × SpellsPrecision token octet
+    × PrecisionsTexts defaults tokens more
+
+-- the first fault of tokens that have to be these, by its place
+abbrev pub PrecisionsFault : Octets → List TokenText → ℕ → DataFaultKind → Type 0
+PrecisionsFault defaults [] place kind = ⊥
+PrecisionsFault [] (token ∷ tokens) place kind = (place ≡ 0) × (kind ≡ Extra)
+PrecisionsFault (c ∷ defaults) (token ∷ tokens) place kind =
+    ((place ≡ 0) × LocationTokenFault (λ t. (octet : ℕ) × SpellsPrecision t octet) token kind)
+    ⊎ ((octet : ℕ) × SpellsPrecision token octet
+    × ((before : ℕ) × (place ≡ before + 1) × PrecisionsFault defaults tokens before kind))
+
+-- the size and the precisions that are missing: 1 m, 10,000 m and 10 m (RFC 1876, section 3)
+abbrev pub default_precisions : Octets
+default_precisions = 18 ∷ 22 ∷ 19 ∷ []
+
+-- a latitude, a longitude, and an altitude
+pub record PositionTexts (tokens : List TokenText) (latitude longitude altitude : ℕ)
+    (left : List TokenText) : Type 0 where
+  pub after_latitude : List TokenText
+  pub of_latitude : AngleTexts latitudes tokens latitude after_latitude
+  pub after_longitude : List TokenText
+  pub of_longitude : AngleTexts longitudes after_latitude longitude after_longitude
+  pub of_altitude : FirstToken (λ token. SpellsAltitude token altitude) after_longitude left
+
+-- the tokens spell these, and up to three precisions; on the wire the version 0 and the precisions
+-- come first (RFC 1876, section 2)
+pub record LocationTexts (tokens : List TokenText) (octets : Octets) : Type 0 where
+  pub latitude : ℕ
+  pub longitude : ℕ
+  pub altitude : ℕ
+  pub left : List TokenText
+  pub position : PositionTexts tokens latitude longitude altitude left
+  pub precisions : Octets
+  pub of_precisions : PrecisionsTexts default_precisions left precisions
+  pub wire : octets ≡ (0 ∷ precisions) ++ (to_be_bytes w32 latitude
+      ++ (to_be_bytes w32 longitude ++ to_be_bytes w32 altitude))
+
+-- the first fault of tokens that have to spell a location, by its place
+pub data LocationFault (tokens : List TokenText) (place : ℕ) (kind : DataFaultKind)
+    : Type 0 where
+  in_latitude : AngleFault latitudes tokens place kind → LocationFault tokens place kind
+  in_longitude : (latitude : ℕ) (after : List TokenText) (used before : ℕ)
+      → AngleTexts latitudes tokens latitude after → length tokens ≡ used + length after
+      → place ≡ used + before → AngleFault longitudes after before kind
+      → LocationFault tokens place kind
+  in_altitude : (latitude longitude : ℕ) (middle after : List TokenText) (used : ℕ)
+      → AngleTexts latitudes tokens latitude middle
+      → AngleTexts longitudes middle longitude after → length tokens ≡ used + length after
+      → place ≡ used → FirstTokenFault (LocationTokenFault (λ token.
+      (n : ℕ) × SpellsAltitude token n)) after kind → LocationFault tokens place kind
+  in_precisions : (latitude longitude altitude : ℕ) (left : List TokenText) (used before : ℕ)
+      → PositionTexts tokens latitude longitude altitude left
+      → length tokens ≡ used + length left → place ≡ used + before
+      → PrecisionsFault default_precisions left before kind → LocationFault tokens place kind
+  location_memory : kind ≡ OutOfMemory → LocationFault tokens place kind
+
 -- ---- all tails
 
 -- the tokens spell the octets of this tail; the kinds without a text of their own are spelled by no
@@ -371,6 +542,7 @@ TailTexts origin tails.Parameters tokens octets = ParametersTexts tokens octets
 TailTexts origin tails.GatewayAndKey tokens octets = GatewayTexts origin tokens octets
 TailTexts origin tails.FlagAndRelay tokens octets = RelayTexts origin tokens octets
 TailTexts origin tails.IdentityAndServers tokens octets = IdentityTexts origin tokens octets
+TailTexts origin tails.Coordinates tokens octets = LocationTexts tokens octets
 TailTexts origin (tails.Many field) tokens octets = ManyTexts origin field tokens octets
 TailTexts origin (tails.AtLeastOne field) tokens octets =
     (0 < length tokens) × ManyTexts origin field tokens octets
@@ -452,6 +624,7 @@ TailFault origin tails.GatewayAndKey tokens place kind = GatewayFault origin tok
 TailFault origin tails.FlagAndRelay tokens place kind = RelayFault origin tokens place kind
 TailFault origin tails.IdentityAndServers tokens place kind =
     IdentityFault origin tokens place kind
+TailFault origin tails.Coordinates tokens place kind = LocationFault tokens place kind
 TailFault origin (tails.Many field) tokens place kind = ManyFault origin field tokens place kind
 TailFault origin (tails.AtLeastOne field) tokens place kind =
     ((place ≡ 0) × (kind ≡ Missing) × (tokens ≡ [])) ⊎ ManyFault origin field tokens place kind

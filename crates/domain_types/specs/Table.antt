@@ -4,8 +4,8 @@ use Rattle.domain_octets.specs.Octets.{Octets}
 use Rattle.domain_base.specs.Numbers.{Named, NumberText, name_of}
 use Rattle.domain_types.specs.declared.field.Field.{Field, TheVariants.{Number8, Number16, Number32, Algorithm, Scheme, CertificateType, RecordType}}
 use Rattle.domain_types.specs.declared.field.Field.TheVariants.{Period, Time, LoweredName, Name, Ipv4, Ipv6, CharacterString, Tag, Salt, HashedOwner}
-use Rattle.domain_types.specs.declared.field.Field.TheVariants.{Locator64, Eui48, Eui64, Location, Prefix}
-use Rattle.domain_types.specs.declared.field.Tail.{Tail, TheVariants.{Nothing, Base16, Base64, Quoted, Opaque, Types, Parameters, GatewayAndKey, FlagAndRelay, IdentityAndServers, Many, AtLeastOne, AtMostOne}}
+use Rattle.domain_types.specs.declared.field.Field.TheVariants.{Locator64, Eui48, Eui64, Prefix}
+use Rattle.domain_types.specs.declared.field.Tail.{Tail, TheVariants.{Nothing, Base16, Base64, Quoted, Opaque, Types, Parameters, GatewayAndKey, FlagAndRelay, IdentityAndServers, Coordinates, Many, AtLeastOne, AtMostOne}}
 use Rattle.domain_types.specs.declared.table.Row.{Row}
 
 -- a type: its number, its mnemonic, the fields of its data, and what follows them
@@ -77,7 +77,7 @@ type_rows =
     ∷ type_of 25 (codes "KEY") (Number16 ∷ Number8 ∷ Algorithm ∷ []) Base64
     ∷ type_of 26 (codes "PX") (Number16 ∷ LoweredName ∷ LoweredName ∷ []) Nothing
     ∷ type_of 27 (codes "GPOS") (CharacterString ∷ CharacterString ∷ CharacterString ∷ []) Nothing
-    ∷ type_of 29 (codes "LOC") (Location ∷ []) Nothing
+    ∷ type_of 29 (codes "LOC") [] Coordinates
     ∷ type_of 30 (codes "NXT") (LoweredName ∷ []) Opaque
     ∷ type_of 31 (codes "EID") [] Opaque
     ∷ type_of 32 (codes "NIMLOC") [] Opaque

@@ -83,6 +83,7 @@ fn is_tail(tail: Tail, octets: &[u8]) -> bool
         Tail::GatewayAndKey => begins_with(Field::Gateway, octets),
         Tail::FlagAndRelay => is_one(Field::Relay, octets),
         Tail::IdentityAndServers => is_identity(octets),
+        Tail::Coordinates => is_one(Field::Location, octets),
         Tail::Many(field) => are_many(field, octets),
         Tail::AtLeastOne(field) => !octets.is_empty() && are_many(field, octets),
         Tail::AtMostOne(field) => octets.is_empty() || is_one(field, octets),

@@ -51,6 +51,7 @@ impl fmt::Display for Tail {
             Tail::GatewayAndKey => f.write_str("a gateway and its key"),
             Tail::FlagAndRelay => f.write_str("a relay"),
             Tail::IdentityAndServers => f.write_str("a host identity"),
+            Tail::Coordinates => f.write_str("a part of a location, as in 52 14 5 N 0 8 50 E 10m"),
             Tail::Many(field) | Tail::AtLeastOne(field) | Tail::AtMostOne(field) => {
                 write!(f, "{field}")
             }

@@ -109,6 +109,8 @@ pub enum Tail {
     /// An algorithm, a host identity tag in Base 16, a public key in Base 64, and any number of
     /// rendezvous servers (RFC 8005, section 6).
     IdentityAndServers,
+    /// A latitude, a longitude, an altitude, and up to three precisions (RFC 1876, section 3).
+    Coordinates,
     /// Any number of fields of a kind.
     Many(Field),
     /// One or more fields of a kind.

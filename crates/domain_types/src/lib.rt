@@ -30,6 +30,7 @@ mod gateway;
 mod hashed;
 mod identity;
 pub mod laws;
+mod location;
 mod lookup;
 mod measure;
 mod name;

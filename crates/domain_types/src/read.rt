@@ -21,6 +21,7 @@ use crate::data::is_data;
 use crate::field::{Field, Tail};
 use crate::gateway::{put_gateway, put_relay};
 use crate::identity::put_identity;
+use crate::location::put_location;
 use crate::lookup::row_of;
 use crate::parameters::put_parameters;
 use crate::spell::{Part, spell};
@@ -332,6 +333,7 @@ fn put_tail(
         Tail::GatewayAndKey => put_gateway(alloc, tokens, origin, out),
         Tail::FlagAndRelay => put_relay(alloc, tokens, origin, out),
         Tail::IdentityAndServers => put_identity(alloc, tokens, origin, out),
+        Tail::Coordinates => put_location(tokens, out),
         Tail::Many(field) => put_many(alloc, field, tokens, origin, out),
         Tail::AtLeastOne(_) if tokens.is_empty() => Err(first(DataFaultKind::Missing)),
         Tail::AtLeastOne(field) => put_many(alloc, field, tokens, origin, out),

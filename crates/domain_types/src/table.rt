@@ -142,7 +142,7 @@ pub(crate) fn rows() -> &'static [Row]
             &[CharacterString, CharacterString, CharacterString],
             Nothing,
         ),
-        Row(29, "LOC", &[Location], Nothing),
+        Row(29, "LOC", &[], Coordinates),
         Row(30, "NXT", &[LoweredName], Opaque),
         Row(31, "EID", &[], Opaque),
         Row(32, "NIMLOC", &[], Opaque),
