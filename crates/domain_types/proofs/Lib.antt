@@ -4,6 +4,12 @@ pub mod DataLemmas
 pub mod TableLemmas
 pub mod SpellLemmas
 pub mod ReadLemmas
+pub mod PrefixLemmas
+pub mod FieldLaws
+pub mod GatewayLaws
+pub mod IdentityLaws
+pub mod LocationLemmas
+pub mod LocationLaws
 pub mod ReadLaws
 pub mod TypeSetLemmas
 pub mod TtlLemmas

@@ -4,7 +4,6 @@ use Rattle.std.proofs.lemmas.{Grind.common_steps}
 use Rattle.domain_svcb.specs.{Values.Parameter, Parameters.AreGathered}
 use Rattle.domain_types.specs.Reading.{TokenText, token_texts, AreUnquoted, AddsToken, ParameterTokenFault, AllParametersFault, ParametersFault}
 use Rattle.domain_types.specs.declared.token.DataFaultKind.{DataFaultKind}
-use Rattle.domain_types.proofs.ReadLemmas.{many_at}
 
 -- the first tokens add these parameters; what is left of the tokens decides about the rest
 pub record HaveAdded (tokens : List TokenText) (place : ℕ) (now : List Parameter) : Type 0 where

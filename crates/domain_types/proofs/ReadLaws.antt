@@ -1,83 +1,33 @@
 -- What tokens spell is data of the type, and tokens with a fault spell none.
-use Rattle.std.proofs.Common.{◌≡◌, ℕ, suc, ◌+◌, ◌-◌, ◌*◌, ◌<◌, ◌≤◌, List, [], ◌∷◌, ◌++◌, length, drop, refl, sym, ap, ◌∙◌, subst, arith}
+use Rattle.std.proofs.Common.{◌≡◌, ℕ, ◌<◌, ◌≤◌, List, [], ◌∷◌, ◌++◌, length, drop, refl, sym, ap, ◌∙◌, subst, arith}
 use Rattle.std.proofs.Common.{length-append, inl}
 use Rattle.std.proofs.Common.{inr, true, false, ◌⊎◌}
-use Rattle.std.proofs.lemmas.{Grind.common_steps, List.{append-nil, length-replicate}}
-use Rattle.std.specs.{Prelude.slice_index, Net.{Grammar.{IsColonHex}, Addr.octets_of}}
-use Rattle.domain_names.specs.{Name.{Name, IsName}, Wire.IsWire, Text.{NameText, root, of_labels}}
-use Rattle.domain_names.proofs.WireLemmas.{IsWire-wire_of}
-use Rattle.domain_types.specs.Fields.{IsField, AreMany, none, one_more, IsTail, AreFieldOctets}
-use Rattle.domain_types.specs.Spelling.{NameToken, at_origin, absolute, relative, NameField}
-use Rattle.domain_types.specs.Spelling.{PlainText, FieldSpelling}
-use Rattle.domain_types.specs.Reading.{TokenText, SpellsField, TokenFault, ManyTexts, ManyFault, TailTexts, TailFault, LayoutTexts, LayoutFault}
-use Rattle.domain_types.specs.Reading.{BaseFault, QuotedFault, BaseTexts, QuotedTexts, GenericTexts, GenericTextsFault, DataTexts, generic, own}
+use Rattle.std.proofs.lemmas.{List.{append-nil}}
+use Rattle.domain_names.specs.{Name.{Name, IsName}}
+use Rattle.domain_types.specs.Fields.{IsField, IsTail, AreFieldOctets}
+use Rattle.domain_types.specs.Reading.{TokenText, ManyTexts, TailTexts, TailFault, LayoutTexts, LayoutFault}
+use Rattle.domain_types.specs.Reading.{QuotedFault, QuotedTexts, GenericTexts, GenericTextsFault, DataTexts, generic, own}
 use Rattle.domain_types.specs.Reading.{DataTextFault, in_generic, in_own, SpellsType, TypeTokenFault, MnemonicTexts, MnemonicFault}
 use Rattle.domain_bitmap.{specs.{Blocks.IsBitmap, Text.is_among}, proofs.BitmapLemmas.IsBitmap-bitmap_octets}
 use Rattle.domain_types.specs.{Canonical.IsData, Table.{fields_of, tail_of}}
 use Rattle.domain_types.specs.declared.field.{Field.Field, Tail.Tail}
-use Rattle.domain_types.specs.declared.field.Field.TheVariants as fields
 use Rattle.domain_types.specs.declared.field.Tail.TheVariants as tails
 use Rattle.domain_types.specs.declared.token.DataFaultKind.{DataFaultKind, TheVariants.OutOfMemory}
 use Rattle.domain_types.specs.declared.token.DataFaultKind.TheVariants as kinds
-use Rattle.domain_codecs.specs.declared.codec.Codec.{Codec}
 use Rattle.hex.specs.{Hex.decode_of, declared.error.FromHexError.FromHexError}
 use Rattle.std.specs.{List.concat, Prelude.{Result, Ok}}
-use Rattle.domain_types.specs.Reading.{token_texts, has_inner_quote, AreUnquoted, AddsToken, ParameterTokenFault, AllParametersFault}
-use Rattle.domain_types.specs.Reading.{ParametersFault, ParametersTexts}
+use Rattle.domain_types.specs.Reading.{token_texts, has_inner_quote, AreUnquoted, ParameterTokenFault, AllParametersFault}
+use Rattle.domain_types.specs.Reading.{ParametersFault}
 use Rattle.domain_svcb.specs.Parameters.{AreParameters, AddsParameter, AreGathered, is_consistent}
-use Rattle.domain_svcb.proofs.GatherLemmas.{gathered_are, refused_adds_none, one_after, length-octets_of, segments_eight}
+use Rattle.domain_svcb.proofs.GatherLemmas.{gathered_are, refused_adds_none, one_after}
 use Rattle.domain_svcb.specs.Values.{Parameter}
 use Rattle.domain_types.proofs.DataLemmas.{field_some}
+use Rattle.domain_types.proofs.FieldLaws.{field_valid, many_valid, token_none, many_none, base_none}
+use Rattle.domain_types.proofs.IdentityLaws.{identity_is, identity_none}
+use Rattle.domain_types.proofs.LocationLaws.{location_is, location_none}
+use Rattle.domain_types.proofs.GatewayLaws.{gateway_begins, relay_is, gateway_none, relay_none}
 
--- ---- what a token spells is a field of the kind
-
-name_text_valid : (text : List ℕ) (labels : Name) → NameText text labels → IsName labels
-name_text_valid text labels root = record { of_labels = tt; fits = omega arith }
-name_text_valid text labels (of_labels t ls spelled valid) = valid
-
-token_valid : (origin : Name) (text : List ℕ) (labels : Name) → IsName origin → NameToken origin text labels → IsName labels
-token_valid origin text labels valid (at_origin t at) = valid
-token_valid origin text labels valid (absolute t ls other dot spelled) = name_text_valid t ls spelled
-token_valid origin text labels valid (relative t ls other plain spelled joined) = joined
-
-name_field : (origin : Name) (text octets : List ℕ) → IsName origin → NameField origin text octets → IsWire octets
-name_field origin text octets valid (labels, token, is) = subst IsWire (sym is) (IsWire-wire_of labels (token_valid origin text labels valid token))
-
-counted_valid : (string octets : List ℕ) → octets ≡ length string ∷ string → length octets ≡ 1 + slice_index octets 0
-counted_valid string octets is = subst (λ o. length o ≡ 1 + slice_index o 0) (sym is) (let e : suc (length string) ≡ 1 + length string = omega arith in e)
-
-plain_valid : (field : Field) (text octets : List ℕ) → PlainText field text octets → IsField field octets
-plain_valid fields.Number8 text octets (n, number, is) = ap length is
-plain_valid fields.Number16 text octets (n, number, is) = ap length is
-plain_valid fields.Number32 text octets (n, number, is) = ap length is
-plain_valid fields.Algorithm text octets (n, spelled, small, is) = ap length is
-plain_valid fields.Scheme text octets (n, spelled, small, is) = ap length is
-plain_valid fields.CertificateType text octets (n, spelled, small, is) = ap length is
-plain_valid fields.RecordType text octets (t, spelled, is) = ap length is
-plain_valid fields.Period text octets (n, spelled, is) = ap length is
-plain_valid fields.Time text octets (n, spelled, is) = ap length is
-plain_valid fields.Ipv4 text octets is = ap length is.value
-plain_valid fields.Ipv6 text octets (a, spelled, is) =
-    ap length is ∙ length-octets_of a.segments ∙ ap (λ n. 2 * n) (segments_eight text a.segments spelled)
-plain_valid fields.CharacterString text octets (string, spelled, fits, is) = counted_valid string octets is
-plain_valid fields.Salt text octets (salt, spelled, is) = counted_valid salt octets is
-plain_valid fields.HashedOwner text octets (hash, spelled, some, is) = counted_valid hash octets is
-plain_valid fields.Tag text octets (is, fits, word) = word
-plain_valid fields.Locator64 text octets is = ap length is.value
-plain_valid fields.Eui48 text octets is = is.full
-plain_valid fields.Eui64 text octets is = is.full
-plain_valid field text octets is = absurd (is)
-
-pub field_valid : (origin : Name) (field : Field) (text octets : List ℕ) → IsName origin → FieldSpelling origin field text octets → IsField field octets
-field_valid origin fields.LoweredName text octets valid is = name_field origin text octets valid is
-field_valid origin fields.Name text octets valid is = name_field origin text octets valid is
-field_valid origin field text octets valid is = plain_valid field text octets is
-
-many_valid : (origin : Name) (field : Field) (tokens : List TokenText) (octets : List ℕ) → IsName origin → ManyTexts origin field tokens octets
-    → AreMany field octets
-many_valid origin field [] octets valid is = subst (AreMany field) (sym is) none
-many_valid origin field (token ∷ tokens) octets valid is =
-    one_more octets is.0 is.1 is.2 (field_valid origin field token.octets is.0 valid is.3.text) (many_valid origin field tokens is.1 valid is.4)
+-- ---- what tokens spell is data
 
 some_octets : (origin : Name) (field : Field) (tokens : List TokenText) (octets : List ℕ) → IsName origin → 0 < length tokens
     → ManyTexts origin field tokens octets → 0 < length octets
@@ -102,6 +52,10 @@ tail_valid origin tails.Opaque tokens octets valid is = tt
 tail_valid origin tails.Types tokens octets valid is = subst IsBitmap (sym is.bitmap) (IsBitmap-bitmap_octets (is_among is.types))
 tail_valid origin tails.Parameters tokens octets valid is =
     subst (AreParameters 0) (sym is.wire) (gathered_are (token_texts tokens) is.all is.gathered)
+tail_valid origin tails.GatewayAndKey tokens octets valid is = gateway_begins origin tokens octets valid is
+tail_valid origin tails.FlagAndRelay tokens octets valid is = relay_is origin tokens octets valid is
+tail_valid origin tails.IdentityAndServers tokens octets valid is = identity_is origin tokens octets valid is
+tail_valid origin tails.Coordinates tokens octets valid is = location_is tokens octets is
 tail_valid origin (tails.Many field) tokens octets valid is = many_valid origin field tokens octets valid is
 tail_valid origin (tails.AtLeastOne field) tokens octets valid is =
     (some_octets origin field tokens octets valid is.0 is.1, many_valid origin field tokens octets valid is.1)
@@ -119,26 +73,6 @@ data_valid origin t tokens octets valid (generic marked spelled is) = is
 data_valid origin t tokens octets valid (own other is) = layout_valid origin (fields_of t) (tail_of t) tokens octets valid is
 
 -- ---- tokens with a fault
-
-token_none : (origin : Name) (field : Field) (token : TokenText) (kind : DataFaultKind) (part : List ℕ) → TokenFault origin field token kind
-    → (kind ≡ OutOfMemory → ⊥) → SpellsField origin field token part → ⊥
-token_none origin field token kinds.Quoted part wrong real is = let e : true ≡ false = sym wrong ∙ is.quotes in cc
-token_none origin field token (kinds.NotField other) part wrong real is = wrong.1 part is
-token_none origin field token kinds.OutOfMemory part wrong real is = real refl
-token_none origin field token kind part wrong real is = wrong
-
-many_none : (origin : Name) (field : Field) (tokens : List TokenText) (place : ℕ) (kind : DataFaultKind) (octets : List ℕ)
-    → ManyFault origin field tokens place kind → (kind ≡ OutOfMemory → ⊥) → ManyTexts origin field tokens octets → ⊥
-many_none origin field [] place kind octets wrong real is = wrong
-many_none origin field (token ∷ tokens) place kind octets (inl here) real is = token_none origin field token kind is.0 here.1 real is.3
-many_none origin field (token ∷ tokens) place kind octets (inr later) real is = many_none origin field tokens later.1.0 kind is.1 later.1.2 real is.4
-
-base_none : (codec : Codec) (tail : Tail) (tokens : List TokenText) (place : ℕ) (kind : DataFaultKind) (octets : List ℕ)
-    → BaseFault codec tail tokens place kind → (kind ≡ OutOfMemory → ⊥) → BaseTexts codec tokens octets → ⊥
-base_none codec tail tokens place kinds.Missing octets wrong real is = omega (arith, ap length wrong.1, is.some)
-base_none codec tail tokens place (kinds.NotTail other) octets wrong real is = wrong.3 octets is
-base_none codec tail tokens place kinds.OutOfMemory octets wrong real is = real refl
-base_none codec tail tokens place kind octets wrong real is = wrong
 
 quoted_none : (tokens : List TokenText) (place : ℕ) (kind : DataFaultKind) (octets : List ℕ) → QuotedFault tokens place kind
     → (kind ≡ OutOfMemory → ⊥) → QuotedTexts tokens octets → ⊥
@@ -209,6 +143,10 @@ tail_none origin tails.Opaque tokens place kind octets wrong real is = is
 tail_none origin tails.Types tokens place kind octets wrong real is = types_none tokens place kind is.types wrong real is.spelled
 tail_none origin tails.Parameters tokens place kind octets wrong real is =
     parameters_none tokens [] is.all place kind wrong real is.unquoted is.gathered is.consistent
+tail_none origin tails.GatewayAndKey tokens place kind octets wrong real is = gateway_none origin tokens place kind octets wrong real is
+tail_none origin tails.FlagAndRelay tokens place kind octets wrong real is = relay_none origin tokens place kind octets wrong real is
+tail_none origin tails.IdentityAndServers tokens place kind octets wrong real is = identity_none origin tokens place kind octets wrong real is
+tail_none origin tails.Coordinates tokens place kind octets wrong real is = location_none tokens place kind octets wrong real is
 tail_none origin (tails.Many field) tokens place kind octets wrong real is = many_none origin field tokens place kind octets wrong real is
 tail_none origin (tails.AtLeastOne field) tokens place kind octets wrong real is = least_none origin field tokens place kind octets wrong real is
 tail_none origin (tails.AtMostOne field) tokens place kind octets wrong real is = most_none origin field tokens place kind octets wrong real is

@@ -204,3 +204,9 @@ layout_refused origin layout tail tokens left old now place kind so left_is is =
     subst (λ fs. LayoutFault origin fs tail (drop (length layout) tokens) place kind) (sym none) (subst
     (λ ts. TailFault origin tail ts place kind) left_is is) in
     so.fault tail place kind rest
+
+-- the first of the tokens of the code, and the others
+pub first_parts : (tokens : List Token) → 0 < length tokens
+    → map token_text tokens ≡ token_text (get_or tokens 0 first_token) ∷ drop 1 (map token_text tokens)
+first_parts [] some = absurd (omega (arith, some))
+first_parts (t ∷ tokens) some = refl

@@ -1,13 +1,13 @@
 -- The octets that tokens spell.
 use Rattle.std.proofs.Common.{◌≡◌, ℕ, zero, suc, ◌+◌, ◌-◌, ◌<◌, ◌≤◌, List, [], ◌∷◌, ◌++◌, length, take, drop, refl, sym, ap, ◌∙◌, subst, arith, length-append}
 use Rattle.std.proofs.Common.{inl, inr, true, false, Some}
-use Rattle.std.proofs.lemmas.{Grind.common_steps, Bool.{cases_Bool, Decides.nat_tests}, List.{append_assoc, append-nil, take-append-drop}}
+use Rattle.std.proofs.lemmas.{Grind.common_steps, Bool.{cases_Bool, Decides.nat_tests}, List.{append_assoc, take-append-drop}}
 use Rattle.std.proofs.lemmas.Str.{IsUtf8-from_ascii}
 use Rattle.std.specs.{List.AllByRecursion, Str.{IsAscii, IsUtf8}}
 use Rattle.domain_names.specs.{Name.{Name, IsName, IsLabel, wire_of}, Wire.{IsWire, labels_of}}
 use Rattle.domain_names.proofs.WireLemmas.{length-wire_of}
 use Rattle.std.proofs.Math.Seq.{take-append-add}
-use Rattle.std.proofs.Common.{None, Option}
+use Rattle.std.proofs.Common.{None}
 use Rattle.domain_types.specs.Spelling.{NameToken, at_origin, absolute, relative, NameField, ends_in_dot}
 use Rattle.domain_types.specs.Spelling.{FieldSpelling, PlainText}
 use Rattle.domain_types.specs.declared.field.Field.{Field}

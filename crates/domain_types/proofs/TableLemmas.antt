@@ -1,7 +1,7 @@
 -- Types by number and by mnemonic.
-use Rattle.std.proofs.Common.{◌≡◌, ℕ, ◌<◌, List, [], ◌∷◌, arith, length, map, take, sym, ap, ◌∙◌, zero, suc}
-use Rattle.std.proofs.lemmas.{Grind.common_steps, Str.IsUtf8-from_ascii, List.{length-map, take_at}, Bool.Decides.nat_tests}
-use Rattle.std.specs.{Str.{IsAscii, IsUtf8}, Str.Parse.{AllDigits}, Char.{digit_value, to_ascii_lowercase}, Prelude.{slice_index, codes}}
+use Rattle.std.proofs.Common.{◌≡◌, ℕ, ◌<◌, List, [], ◌∷◌, arith, length, map, take, sym, ap, ◌∙◌}
+use Rattle.std.proofs.lemmas.{Grind.common_steps, List.{length-map, take_at}, Bool.Decides.nat_tests}
+use Rattle.std.specs.{Char.{to_ascii_lowercase}, Prelude.{codes}}
 use Rattle.domain_base.specs.{Scan.{IsNumber}, Numbers.HasPrefix}
 use Rattle.std.proofs.Common.{Option, Some, None, refl, rules, ◌++◌}
 use Rattle.std.specs.{List.AllByRecursion, Fmt.decimal}

@@ -1,8 +1,13 @@
--- EUI addresses and locators as text (RFC 7043, sections 3.2 and 4.2; RFC 6742, sections 2.1 and
--- 2.3).
+-- IPv6 addresses, EUI addresses and locators as text (RFC 4291, section 2.2; RFC 7043, sections 3.2
+-- and 4.2; RFC 6742, sections 2.1 and 2.3).
 use Rattle.std.specs.Prelude.{◌≡◌, ℕ, ◌+◌, ◌*◌, ◌<◌, ◌++◌, length, slice_index, slice_range, codes}
-use Rattle.std.specs.{Int.{w16, to_be_bytes}, Net.Grammar.IsGroup}
+use Rattle.std.specs.{Int.{w16, to_be_bytes}, Net.{Grammar.{IsGroup, IsIpv6Text}, Addr.ipv6_octets}}
+use Rattle.std.specs.declared.net.ipv6_addr.Ipv6Addr.{Ipv6Addr}
 use Rattle.domain_octets.specs.{Octets.Octets, Text.dash}
+
+-- an IPv6 address (RFC 4291, section 2.2)
+abbrev pub LongAddressText : Octets → Octets → Type 0
+LongAddressText text octets = (a : Ipv6Addr) × IsIpv6Text text a × (octets ≡ ipv6_octets a)
 
 -- two digits in Base 16 for each octet, and a dash between two octets
 pub record EuiText (count : ℕ) (text octets : Octets) : Type 0 where

@@ -9,7 +9,7 @@ use Rattle.domain_types.specs.declared.field.Field.{Field}
 use Rattle.domain_types.specs.declared.field.Field.TheVariants as fields
 use Rattle.domain_types.specs.declared.field.Shape.{Shape}
 use Rattle.domain_types.specs.declared.field.Shape.TheVariants.{Exactly, Domain, Counted, Word, AfterTwo, AfterOne, TwoCounted, CountedInBits}
-use Rattle.domain_types.specs.declared.field.Tail.{Tail, TheVariants.{Nothing, Base16, Base64, Quoted, Opaque, Types, Parameters, Many, AtLeastOne, AtMostOne}}
+use Rattle.domain_types.specs.declared.field.Tail.{Tail, TheVariants.{Nothing, Base16, Base64, Quoted, Opaque, Types, Parameters, GatewayAndKey, FlagAndRelay, IdentityAndServers, Coordinates, Many, AtLeastOne, AtMostOne}}
 
 -- ---- the fields, by their shapes
 
@@ -21,6 +21,8 @@ shape_of fields.Algorithm = Exactly 1
 shape_of fields.Scheme = Exactly 1
 shape_of fields.CertificateType = Exactly 2
 shape_of fields.RecordType = Exactly 2
+shape_of fields.Flag = Exactly 1
+shape_of fields.GatewayType = Exactly 1
 shape_of fields.Period = Exactly 4
 shape_of fields.Time = Exactly 4
 shape_of fields.LoweredName = Domain
@@ -86,6 +88,19 @@ pub data AreMany (field : Field) : Octets → Type 0 where
   one_more : (octets part after : Octets) → octets ≡ part ++ after → IsField field part
       → AreMany field after → AreMany field octets
 
+-- the octets begin with a field of this kind
+abbrev pub BeginsWithField : Field → Octets → Type 0
+BeginsWithField field octets =
+    (part : Octets) × (after : Octets) × (octets ≡ part ++ after) × IsField field part
+
+-- the octets are a host identity, and then any number of names
+pub record IsIdentity (octets : Octets) : Type 0 where
+  pub part : Octets
+  pub after : Octets
+  pub parts : octets ≡ part ++ after
+  pub identity : IsField fields.HostIdentity part
+  pub servers : AreMany fields.Name after
+
 -- the octets are this tail
 abbrev pub IsTail : Tail → Octets → Type 0
 IsTail Nothing octets = octets ≡ []
@@ -95,6 +110,10 @@ IsTail Quoted octets = Unit {0}
 IsTail Opaque octets = Unit {0}
 IsTail Types octets = IsBitmap octets
 IsTail Parameters octets = AreParameters 0 octets
+IsTail GatewayAndKey octets = BeginsWithField fields.Gateway octets
+IsTail FlagAndRelay octets = IsField fields.Relay octets
+IsTail IdentityAndServers octets = IsIdentity octets
+IsTail Coordinates octets = IsField fields.Location octets
 IsTail (Many field) octets = AreMany field octets
 IsTail (AtLeastOne field) octets = (0 < length octets) × AreMany field octets
 IsTail (AtMostOne field) octets = (octets ≡ []) ⊎ IsField field octets

@@ -7,3 +7,4 @@ pub mod Ttls
 pub mod Times
 pub mod Mnemonics
 pub mod Addresses
+pub mod Prefixes

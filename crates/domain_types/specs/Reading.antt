@@ -1,8 +1,8 @@
 -- Data of a type in presentation format: the octets that tokens spell, and the first fault (RFC
 -- 1035, section 5.1; RFC 3597, section 5).
-use Rattle.std.specs.Prelude.{◌≡◌, ◌≢◌, ℕ, ◌+◌, ◌<◌, ◌≤◌, ◌⊎◌, ◌&&◌, ◌||◌, ◌==◌, Bool, true, false, not, if◌then◌else◌, List, [], ◌∷◌, ◌++◌, length}
-use Rattle.std.specs.Prelude.{map, drop, codes}
-use Rattle.std.specs.List.{concat, AllByRecursion}
+use Rattle.std.specs.Prelude.{◌≡◌, ◌≢◌, ℕ, ◌+◌, ◌*◌, ◌^◌, ◌<◌, ◌≤◌, ◌⊎◌, ◌&&◌, ◌||◌, ◌==◌, Bool, true, false, not, if◌then◌else◌, List, [], ◌∷◌, ◌++◌, length}
+use Rattle.std.specs.Prelude.{map, drop, codes, Option, Some, None}
+use Rattle.std.specs.{List.{concat, AllByRecursion}, Int.{w16, w32, to_be_bytes}}
 use Rattle.domain_octets.specs.{Octets.Octets, Text.{quote, backslash}}
 use Rattle.domain_names.specs.Name.{Name}
 use Rattle.domain_base.specs.{Scan.{IsNumber}, Types.Rtypes}
@@ -10,7 +10,8 @@ use Rattle.domain_bitmap.specs.{Bitmap.bitmap_octets, Text.is_among}
 use Rattle.domain_codecs.specs.{Codec.Decodes, declared.codec.Codec.{Codec}}
 use Rattle.domain_codecs.specs.declared.codec.Codec.TheVariants as codecs
 use Rattle.domain_types.specs.{Canonical.IsData, Spelling.{FieldSpelling, NameToken}, Table.{fields_of, tail_of, MnemonicText}}
-use Rattle.domain_types.specs.declared.field.Field.{Field, TheVariants.CharacterString}
+use Rattle.domain_types.specs.declared.field.Field.{Field, TheVariants.{CharacterString, Number8, Flag, GatewayType, Ipv4, Ipv6}}
+use Rattle.domain_types.specs.declared.field.Field.TheVariants as fields
 use Rattle.domain_types.specs.declared.field.Tail.{Tail}
 use Rattle.domain_types.specs.declared.field.Tail.TheVariants as tails
 use Rattle.domain_svcb.specs.{Strings.StringText, Values.Parameter}
@@ -18,6 +19,9 @@ use Rattle.domain_svcb.specs.Parameters.{AddsParameter, RefusesParameter, AreGat
 use Rattle.domain_svcb.specs.declared.fault.SpellFault.{SpellFault}
 use Rattle.domain_svcb.specs.declared.fault.SpellFault.TheVariants as spell
 use Rattle.domain_svcb.specs.declared.fault.ParameterFault.TheVariants as parameter_fault
+use Rattle.domain_location.specs.{Decimals.DecimalText, Lengths.{AltitudeText, PrecisionText}}
+use Rattle.domain_types.specs.declared.location.Step.{Step}
+use Rattle.domain_types.specs.declared.location.Axis.{Axis}
 use Rattle.domain_types.specs.declared.token.Token.{Token}
 use Rattle.domain_types.specs.declared.token.DataFaultKind.{DataFaultKind}
 use Rattle.domain_types.specs.declared.token.DataFaultKind.TheVariants.{Missing, Extra, Quoted, NotField, NotTail, NotParameter, NoText, NotGeneric}
@@ -149,6 +153,382 @@ pub record ParametersTexts (tokens : List TokenText) (octets : Octets) : Type 0 
   pub consistent : is_consistent all ≡ true
   pub wire : octets ≡ parameters_octets all
 
+-- the fault of tokens that have to be a text of the codec
+abbrev pub BaseFault : Codec → Tail → List TokenText → ℕ → DataFaultKind → Type 0
+BaseFault codec tail tokens place Missing = (place ≡ 0) × (tokens ≡ [])
+BaseFault codec tail tokens place (NotTail other) =
+    (place ≡ 0) × (other ≡ tail) × (0 < length tokens)
+    × ((octets : Octets) → BaseTexts codec tokens octets → ⊥)
+BaseFault codec tail tokens place OutOfMemory = Unit {0}
+BaseFault codec tail tokens place kind = ⊥
+
+-- ---- gateways
+
+-- the first token has this property, and these are left
+pub record FirstToken (P : TokenText → Type 0) (tokens left : List TokenText) : Type 0 where
+  pub token : TokenText
+  pub parts : tokens ≡ token ∷ left
+  pub holds : P token
+
+-- the first token has this fault, or is missing
+abbrev pub FirstTokenFault : (TokenText → DataFaultKind → Type 0) → List TokenText
+    → DataFaultKind → Type 0
+FirstTokenFault Why [] kind = kind ≡ Missing
+FirstTokenFault Why (token ∷ tokens) kind = Why token kind
+
+-- the field of the gateways of a type; type 0 has none
+abbrev pub gateway_field : ℕ → Option Field
+gateway_field kind =
+    if kind == 1 then Some Ipv4
+    else (if kind == 2 then Some Ipv6 else (if kind == 3 then Some fields.Name else None))
+
+-- the token is the dot that says that there is no gateway
+pub record SpellsNoGateway (token : TokenText) (octets : Octets) : Type 0 where
+  pub unquoted : token.is_quoted ≡ false
+  pub dot : token.octets ≡ codes "."
+  pub none : octets ≡ []
+
+-- the token spells a gateway: a field of this kind, or none
+abbrev pub SpellsGateway : Name → Option Field → TokenText → Octets → Type 0
+SpellsGateway origin None token octets = SpellsNoGateway token octets
+SpellsGateway origin (Some field) token octets = SpellsField origin field token octets
+
+-- the fault of a token that has to spell a gateway
+abbrev pub GatewayTokenFault : Name → Option Field → TokenText → DataFaultKind → Type 0
+GatewayTokenFault origin None token kind =
+    (kind ≡ NotField fields.Gateway) × ((octets : Octets) → SpellsNoGateway token octets → ⊥)
+GatewayTokenFault origin (Some field) token kind = TokenFault origin field token kind
+
+-- the first token spells a field of one octet
+abbrev pub FirstOctet : Name → Field → List TokenText → ℕ → List TokenText → Type 0
+FirstOctet origin field tokens n left =
+    FirstToken (λ token. SpellsField origin field token (n ∷ [])) tokens left
+
+-- of two numbers, the one that is the type of a gateway
+abbrev pub gateway_type : Field → ℕ → ℕ → ℕ
+gateway_type GatewayType a b = a
+gateway_type first a b = b
+
+-- the tokens begin with two fields of one octet, one of them the type of a gateway, and the gateway
+pub record HeadTexts (origin : Name) (first second : Field) (tokens : List TokenText) (a b : ℕ)
+    (gateway : Octets) (left : List TokenText) : Type 0 where
+  pub after_a : List TokenText
+  pub of_a : FirstOctet origin first tokens a after_a
+  pub after_b : List TokenText
+  pub of_b : FirstOctet origin second after_a b after_b
+  pub of_gateway : FirstToken (λ token.
+      SpellsGateway origin (gateway_field (gateway_type first a b)) token gateway) after_b left
+
+-- the first fault of tokens that have to begin so, by its place
+pub data HeadFault (origin : Name) (first second : Field) (tokens : List TokenText) (place : ℕ)
+    (kind : DataFaultKind) : Type 0 where
+  at_first : place ≡ 0 → FirstTokenFault (TokenFault origin first) tokens kind
+      → HeadFault origin first second tokens place kind
+  at_second : (a : ℕ) (after_a : List TokenText) → place ≡ 1
+      → FirstOctet origin first tokens a after_a
+      → FirstTokenFault (TokenFault origin second) after_a kind
+      → HeadFault origin first second tokens place kind
+  at_gateway : (a b : ℕ) (after_a after_b : List TokenText) → place ≡ 2
+      → FirstOctet origin first tokens a after_a → FirstOctet origin second after_a b after_b
+      → FirstTokenFault (GatewayTokenFault origin (gateway_field (gateway_type first a b))) after_b
+      kind
+      → HeadFault origin first second tokens place kind
+
+-- the tokens spell the key of a gateway, which is absent exactly for algorithm 0
+pub data KeyTexts (algorithm : ℕ) (tokens : List TokenText) (octets : Octets) : Type 0 where
+  no_key : algorithm ≡ 0 → tokens ≡ [] → octets ≡ [] → KeyTexts algorithm tokens octets
+  some_key : algorithm ≢ 0 → BaseTexts codecs.Base64 tokens octets
+      → KeyTexts algorithm tokens octets
+
+-- the first fault of tokens that have to spell the key of a gateway, by its place
+pub data KeyFault (algorithm : ℕ) (tokens : List TokenText) (place : ℕ) (kind : DataFaultKind)
+    : Type 0 where
+  key_of_none : algorithm ≡ 0 → 0 < length tokens → place ≡ 0 → kind ≡ Extra
+      → KeyFault algorithm tokens place kind
+  not_key : algorithm ≢ 0 → BaseFault codecs.Base64 tails.Base64 tokens place kind
+      → KeyFault algorithm tokens place kind
+
+-- the tokens spell the type of a gateway, an algorithm, the gateway and its key (RFC 4025, section
+-- 3.1)
+pub record GatewayTexts (origin : Name) (tokens : List TokenText) (octets : Octets)
+    : Type 0 where
+  pub kind : ℕ
+  pub algorithm : ℕ
+  pub gateway : Octets
+  pub left : List TokenText
+  pub head : HeadTexts origin GatewayType Number8 tokens kind algorithm gateway left
+  pub key : Octets
+  pub last : KeyTexts algorithm left key
+  pub wire : octets ≡ kind ∷ algorithm ∷ (gateway ++ key)
+
+-- the first fault of tokens that have to spell these, by its place
+pub data GatewayFault (origin : Name) (tokens : List TokenText) (place : ℕ)
+    (kind : DataFaultKind) : Type 0 where
+  in_gateway : HeadFault origin GatewayType Number8 tokens place kind
+      → GatewayFault origin tokens place kind
+  in_key : (a algorithm : ℕ) (gateway : Octets) (left : List TokenText) (before : ℕ)
+      → HeadTexts origin GatewayType Number8 tokens a algorithm gateway left
+      → place ≡ 3 + before → KeyFault algorithm left before kind
+      → GatewayFault origin tokens place kind
+  gateway_memory : kind ≡ OutOfMemory → GatewayFault origin tokens place kind
+
+-- the tokens spell the bit for discovery, the type of a relay, and the relay; the bit and the type
+-- share an octet (RFC 8777, sections 4.2 and 4.3)
+pub record RelayTexts (origin : Name) (tokens : List TokenText) (octets : Octets) : Type 0 where
+  pub flag : ℕ
+  pub kind : ℕ
+  pub relay : Octets
+  pub head : HeadTexts origin Flag GatewayType tokens flag kind relay []
+  pub wire : octets ≡ (128 * flag + kind) ∷ relay
+
+-- the first fault of tokens that have to spell these, by its place
+pub data RelayFault (origin : Name) (tokens : List TokenText) (place : ℕ) (kind : DataFaultKind)
+    : Type 0 where
+  in_relay : HeadFault origin Flag GatewayType tokens place kind
+      → RelayFault origin tokens place kind
+  after_relay : (a b : ℕ) (relay : Octets) (left : List TokenText)
+      → HeadTexts origin Flag GatewayType tokens a b relay left → 0 < length left → place ≡ 3
+      → kind ≡ Extra → RelayFault origin tokens place kind
+  relay_memory : kind ≡ OutOfMemory → RelayFault origin tokens place kind
+
+-- ---- host identities
+
+-- the token, without quotes, is a text of the codec for at most this many octets
+pub record SpellsBase (codec : Codec) (limit : ℕ) (token : TokenText) (octets : Octets)
+    : Type 0 where
+  pub unquoted : token.is_quoted ≡ false
+  pub decodes : Decodes codec token.octets octets
+  pub fits : length octets ≤ limit
+
+-- the fault of a token that has to be such a text
+abbrev pub BaseTokenFault : Codec → ℕ → Tail → TokenText → DataFaultKind → Type 0
+BaseTokenFault codec limit tail token Quoted = token.is_quoted ≡ true
+BaseTokenFault codec limit tail token (NotTail other) =
+    (other ≡ tail) × ((octets : Octets) → SpellsBase codec limit token octets → ⊥)
+BaseTokenFault codec limit tail token OutOfMemory = Unit {0}
+BaseTokenFault codec limit tail token kind = ⊥
+
+-- the first token is a host identity tag, or a public key
+abbrev pub FirstTag : List TokenText → Octets → List TokenText → Type 0
+FirstTag tokens tag left =
+    FirstToken (λ token. SpellsBase codecs.Base16 255 token tag) tokens left
+
+abbrev pub FirstKey : List TokenText → Octets → List TokenText → Type 0
+FirstKey tokens key left =
+    FirstToken (λ token. SpellsBase codecs.Base64 65535 token key) tokens left
+
+-- the tokens begin with an algorithm, a host identity tag and a public key
+pub record IdentityHead (origin : Name) (tokens : List TokenText) (algorithm : ℕ)
+    (tag key : Octets) (left : List TokenText) : Type 0 where
+  pub after_algorithm : List TokenText
+  pub of_algorithm : FirstOctet origin Number8 tokens algorithm after_algorithm
+  pub after_tag : List TokenText
+  pub of_tag : FirstTag after_algorithm tag after_tag
+  pub of_key : FirstKey after_tag key left
+
+-- the tokens spell these, and then names of rendezvous servers; on the wire the lengths of the tag
+-- and of the key come first (RFC 8005, sections 5 and 6)
+pub record IdentityTexts (origin : Name) (tokens : List TokenText) (octets : Octets)
+    : Type 0 where
+  pub algorithm : ℕ
+  pub tag : Octets
+  pub key : Octets
+  pub left : List TokenText
+  pub head : IdentityHead origin tokens algorithm tag key left
+  pub servers : Octets
+  pub of_servers : ManyTexts origin fields.Name left servers
+  pub wire : octets ≡ ((length tag ∷ algorithm ∷ to_be_bytes w16 (length key)) ++ (tag ++ key))
+      ++ servers
+
+-- the first fault of tokens that have to spell these, by its place
+pub data IdentityFault (origin : Name) (tokens : List TokenText) (place : ℕ)
+    (kind : DataFaultKind) : Type 0 where
+  at_identity : place ≡ 0 → FirstTokenFault (TokenFault origin Number8) tokens kind
+      → IdentityFault origin tokens place kind
+  at_tag : (algorithm : ℕ) (after_algorithm : List TokenText) → place ≡ 1
+      → FirstOctet origin Number8 tokens algorithm after_algorithm
+      → FirstTokenFault (BaseTokenFault codecs.Base16 255 tails.Base16) after_algorithm kind
+      → IdentityFault origin tokens place kind
+  at_key : (algorithm : ℕ) (tag : Octets) (after_algorithm after_tag : List TokenText) → place ≡ 2
+      → FirstOctet origin Number8 tokens algorithm after_algorithm
+      → FirstTag after_algorithm tag after_tag
+      → FirstTokenFault (BaseTokenFault codecs.Base64 65535 tails.Base64) after_tag kind
+      → IdentityFault origin tokens place kind
+  at_server : (algorithm : ℕ) (tag key : Octets) (left : List TokenText) (before : ℕ)
+      → IdentityHead origin tokens algorithm tag key left → place ≡ 3 + before
+      → ManyFault origin fields.Name left before kind → IdentityFault origin tokens place kind
+  identity_memory : kind ≡ OutOfMemory → IdentityFault origin tokens place kind
+
+-- ---- locations
+
+-- the steps of an angle, in thousandths of a second: degrees, minutes, and seconds with up to three
+-- digits after a point
+abbrev pub step_of : ℕ → ℕ → ℕ → Step
+step_of places unit most = record { places = places; unit = unit; most = most }
+
+abbrev pub degrees : Step
+degrees = step_of 0 3600000 180
+
+abbrev pub minutes : Step
+minutes = step_of 0 60000 59
+
+abbrev pub seconds : Step
+seconds = step_of 3 1 59999
+
+-- angles up to 90 degrees north and south, and up to 180 degrees east and west
+abbrev pub axis_of : ℕ → ℕ → ℕ → Axis
+axis_of most positive negative =
+    record { most = most; positive = positive; negative = negative }
+
+abbrev pub latitudes : Axis
+latitudes = axis_of (90 * 3600000) 78 83
+
+abbrev pub longitudes : Axis
+longitudes = axis_of (180 * 3600000) 69 87
+
+-- the token is the number of a step, which keeps the sum within the axis
+pub record SpellsStep (axis : Axis) (step : Step) (total : ℕ) (token : TokenText) (n : ℕ)
+    : Type 0 where
+  pub unquoted : token.is_quoted ≡ false
+  pub text : DecimalText step.places token.octets n
+  pub few : n ≤ step.most
+  pub within : total + step.unit * n ≤ axis.most
+
+-- the token is the letter of a side; the angle is counted from 2^31 (RFC 1876, section 2)
+pub data SpellsSide (axis : Axis) (total : ℕ) (token : TokenText) (angle : ℕ) : Type 0 where
+  positive_side : token.is_quoted ≡ false → token.octets ≡ axis.positive ∷ []
+      → angle ≡ 2 ^ 31 + total → SpellsSide axis total token angle
+  negative_side : token.is_quoted ≡ false → token.octets ≡ axis.negative ∷ []
+      → angle + total ≡ 2 ^ 31 → SpellsSide axis total token angle
+
+-- the tokens end an angle of this sum: with the letter of a side, or with the next step and an end
+abbrev pub AngleEnd : Axis → List Step → ℕ → List TokenText → ℕ → List TokenText → Type 0
+AngleEnd axis [] total tokens angle left =
+    FirstToken (λ token. SpellsSide axis total token angle) tokens left
+AngleEnd axis (step ∷ steps) total tokens angle left =
+    FirstToken (λ token. SpellsSide axis total token angle) tokens left
+    ⊎ ((n : ℕ) × (after : List TokenText)
+    × FirstToken (λ token. SpellsStep axis step total token n) tokens after
+    × AngleEnd axis steps (total + step.unit * n) after angle left)
+
+-- the fault of a token that has to have one of these meanings
+abbrev pub LocationTokenFault : (TokenText → Type 0) → TokenText → DataFaultKind → Type 0
+LocationTokenFault Spells token Quoted = token.is_quoted ≡ true
+LocationTokenFault Spells token (NotTail other) =
+    (other ≡ tails.Coordinates) × (Spells token → ⊥)
+LocationTokenFault Spells token kind = ⊥
+
+-- what a token can mean that goes on with an angle
+abbrev pub CanSide : Axis → ℕ → TokenText → Type 0
+CanSide axis total token = (angle : ℕ) × SpellsSide axis total token angle
+
+abbrev pub CanStep : Axis → Step → ℕ → TokenText → Type 0
+CanStep axis step total token = (n : ℕ) × SpellsStep axis step total token n
+
+-- the first fault of tokens that have to end an angle, by its place
+abbrev pub AngleEndFault : Axis → List Step → ℕ → List TokenText → ℕ → DataFaultKind → Type 0
+AngleEndFault axis [] total tokens place kind =
+    (place ≡ 0) × FirstTokenFault (LocationTokenFault (CanSide axis total)) tokens kind
+AngleEndFault axis (step ∷ steps) total tokens place kind =
+    ((place ≡ 0) × FirstTokenFault (LocationTokenFault (λ token.
+    CanSide axis total token ⊎ CanStep axis step total token)) tokens kind)
+    ⊎ ((n : ℕ) × (after : List TokenText)
+    × FirstToken (λ token. SpellsStep axis step total token n) tokens after
+    × ((before : ℕ) × (place ≡ before + 1)
+    × AngleEndFault axis steps (total + step.unit * n) after before kind))
+
+-- the tokens begin with an angle: degrees, and its end
+pub record AngleTexts (axis : Axis) (tokens : List TokenText) (angle : ℕ) (left : List TokenText)
+    : Type 0 where
+  pub n : ℕ
+  pub after : List TokenText
+  pub of_degrees : FirstToken (λ token. SpellsStep axis degrees 0 token n) tokens after
+  pub end : AngleEnd axis (minutes ∷ seconds ∷ []) (3600000 * n) after angle left
+
+-- the first fault of tokens that have to begin so, by its place
+pub data AngleFault (axis : Axis) (tokens : List TokenText) (place : ℕ) (kind : DataFaultKind)
+    : Type 0 where
+  at_degrees : place ≡ 0
+      → FirstTokenFault (LocationTokenFault (CanStep axis degrees 0)) tokens kind
+      → AngleFault axis tokens place kind
+  after_degrees : (n : ℕ) (after : List TokenText) (before : ℕ)
+      → FirstToken (λ token. SpellsStep axis degrees 0 token n) tokens after
+      → place ≡ 1 + before → AngleEndFault axis (minutes ∷ seconds ∷ []) (3600000 * n) after before kind
+      → AngleFault axis tokens place kind
+
+-- the token is an altitude, or a size or precision
+pub record SpellsAltitude (token : TokenText) (n : ℕ) : Type 0 where
+  pub unquoted : token.is_quoted ≡ false
+  pub text : AltitudeText token.octets n
+
+pub record SpellsPrecision (token : TokenText) (octet : ℕ) : Type 0 where
+  pub unquoted : token.is_quoted ≡ false
+  pub text : PrecisionText token.octets octet
+
+-- the tokens are precisions, and those that are missing have these defaults
+abbrev pub PrecisionsTexts : Octets → List TokenText → Octets → Type 0
+PrecisionsTexts defaults [] octets = octets ≡ defaults
+PrecisionsTexts [] (token ∷ tokens) octets = ⊥
+PrecisionsTexts (c ∷ defaults) (token ∷ tokens) octets =
+    (octet : ℕ) × (more : Octets) × (octets ≡ octet ∷ more) × SpellsPrecision token octet
+    × PrecisionsTexts defaults tokens more
+
+-- the first fault of tokens that have to be these, by its place
+abbrev pub PrecisionsFault : Octets → List TokenText → ℕ → DataFaultKind → Type 0
+PrecisionsFault defaults [] place kind = ⊥
+PrecisionsFault [] (token ∷ tokens) place kind = (place ≡ 0) × (kind ≡ Extra)
+PrecisionsFault (c ∷ defaults) (token ∷ tokens) place kind =
+    ((place ≡ 0) × LocationTokenFault (λ t. (octet : ℕ) × SpellsPrecision t octet) token kind)
+    ⊎ ((octet : ℕ) × SpellsPrecision token octet
+    × ((before : ℕ) × (place ≡ before + 1) × PrecisionsFault defaults tokens before kind))
+
+-- the size and the precisions that are missing: 1 m, 10,000 m and 10 m (RFC 1876, section 3)
+abbrev pub default_precisions : Octets
+default_precisions = 18 ∷ 22 ∷ 19 ∷ []
+
+-- a latitude, a longitude, and an altitude
+pub record PositionTexts (tokens : List TokenText) (latitude longitude altitude : ℕ)
+    (left : List TokenText) : Type 0 where
+  pub after_latitude : List TokenText
+  pub of_latitude : AngleTexts latitudes tokens latitude after_latitude
+  pub after_longitude : List TokenText
+  pub of_longitude : AngleTexts longitudes after_latitude longitude after_longitude
+  pub of_altitude : FirstToken (λ token. SpellsAltitude token altitude) after_longitude left
+
+-- the tokens spell these, and up to three precisions; on the wire the version 0 and the precisions
+-- come first (RFC 1876, section 2)
+pub record LocationTexts (tokens : List TokenText) (octets : Octets) : Type 0 where
+  pub latitude : ℕ
+  pub longitude : ℕ
+  pub altitude : ℕ
+  pub left : List TokenText
+  pub position : PositionTexts tokens latitude longitude altitude left
+  pub precisions : Octets
+  pub of_precisions : PrecisionsTexts default_precisions left precisions
+  pub wire : octets ≡ (0 ∷ precisions) ++ (to_be_bytes w32 latitude
+      ++ (to_be_bytes w32 longitude ++ to_be_bytes w32 altitude))
+
+-- the first fault of tokens that have to spell a location, by its place
+pub data LocationFault (tokens : List TokenText) (place : ℕ) (kind : DataFaultKind)
+    : Type 0 where
+  in_latitude : AngleFault latitudes tokens place kind → LocationFault tokens place kind
+  in_longitude : (latitude : ℕ) (after : List TokenText) (used before : ℕ)
+      → AngleTexts latitudes tokens latitude after → length tokens ≡ used + length after
+      → place ≡ used + before → AngleFault longitudes after before kind
+      → LocationFault tokens place kind
+  in_altitude : (latitude longitude : ℕ) (middle after : List TokenText) (used : ℕ)
+      → AngleTexts latitudes tokens latitude middle
+      → AngleTexts longitudes middle longitude after → length tokens ≡ used + length after
+      → place ≡ used → FirstTokenFault (LocationTokenFault (λ token.
+      (n : ℕ) × SpellsAltitude token n)) after kind → LocationFault tokens place kind
+  in_precisions : (latitude longitude altitude : ℕ) (left : List TokenText) (used before : ℕ)
+      → PositionTexts tokens latitude longitude altitude left
+      → length tokens ≡ used + length left → place ≡ used + before
+      → PrecisionsFault default_precisions left before kind → LocationFault tokens place kind
+  location_memory : kind ≡ OutOfMemory → LocationFault tokens place kind
+
+-- ---- all tails
+
 -- the tokens spell the octets of this tail; the kinds without a text of their own are spelled by no
 -- tokens: their data are read in the generic form
 abbrev pub TailTexts : Name → Tail → List TokenText → Octets → Type 0
@@ -159,20 +539,15 @@ TailTexts origin tails.Quoted tokens octets = QuotedTexts tokens octets
 TailTexts origin tails.Opaque tokens octets = ⊥
 TailTexts origin tails.Types tokens octets = BitmapTexts tokens octets
 TailTexts origin tails.Parameters tokens octets = ParametersTexts tokens octets
+TailTexts origin tails.GatewayAndKey tokens octets = GatewayTexts origin tokens octets
+TailTexts origin tails.FlagAndRelay tokens octets = RelayTexts origin tokens octets
+TailTexts origin tails.IdentityAndServers tokens octets = IdentityTexts origin tokens octets
+TailTexts origin tails.Coordinates tokens octets = LocationTexts tokens octets
 TailTexts origin (tails.Many field) tokens octets = ManyTexts origin field tokens octets
 TailTexts origin (tails.AtLeastOne field) tokens octets =
     (0 < length tokens) × ManyTexts origin field tokens octets
 TailTexts origin (tails.AtMostOne field) tokens octets =
     (length tokens ≤ 1) × ManyTexts origin field tokens octets
-
--- the fault of tokens that have to be a text of the codec
-abbrev pub BaseFault : Codec → Tail → List TokenText → ℕ → DataFaultKind → Type 0
-BaseFault codec tail tokens place Missing = (place ≡ 0) × (tokens ≡ [])
-BaseFault codec tail tokens place (NotTail other) =
-    (place ≡ 0) × (other ≡ tail) × (0 < length tokens)
-    × ((octets : Octets) → BaseTexts codec tokens octets → ⊥)
-BaseFault codec tail tokens place OutOfMemory = Unit {0}
-BaseFault codec tail tokens place kind = ⊥
 
 -- the fault of tokens that have to be one string
 abbrev pub QuotedFault : List TokenText → ℕ → DataFaultKind → Type 0
@@ -245,6 +620,11 @@ TailFault origin tails.Quoted tokens place kind = QuotedFault tokens place kind
 TailFault origin tails.Opaque tokens place kind = (place ≡ 0) × (kind ≡ NoText)
 TailFault origin tails.Types tokens place kind = MnemonicFault tokens place kind
 TailFault origin tails.Parameters tokens place kind = ParametersFault [] tokens place kind
+TailFault origin tails.GatewayAndKey tokens place kind = GatewayFault origin tokens place kind
+TailFault origin tails.FlagAndRelay tokens place kind = RelayFault origin tokens place kind
+TailFault origin tails.IdentityAndServers tokens place kind =
+    IdentityFault origin tokens place kind
+TailFault origin tails.Coordinates tokens place kind = LocationFault tokens place kind
 TailFault origin (tails.Many field) tokens place kind = ManyFault origin field tokens place kind
 TailFault origin (tails.AtLeastOne field) tokens place kind =
     ((place ≡ 0) × (kind ≡ Missing) × (tokens ≡ [])) ⊎ ManyFault origin field tokens place kind

@@ -1,15 +1,14 @@
 -- The presentation format of fields: the octets that a token spells (RFC 1035, section 5.1).
-use Rattle.std.specs.Prelude.{◌≡◌, ◌≢◌, ℕ, ◌+◌, ◌-◌, ◌*◌, ◌<◌, ◌≤◌, ◌==◌, ◌&&◌, Bool, true, false, nat_le, if◌then◌else◌, Option, Some, None, [], ◌∷◌, ◌++◌}
-use Rattle.std.specs.Prelude.{length, drop, fold}
-use Rattle.std.specs.{Int.{w16, w32, to_be_bytes}, Char.is_ascii_digit, Net.{Grammar.{IsDotted, IsIpv6Text}, Addr.ipv6_octets}}
-use Rattle.std.specs.declared.net.ipv6_addr.Ipv6Addr.{Ipv6Addr}
-use Rattle.domain_octets.specs.{Octets.Octets, Text.{dot, at_sign, backslash, digit_zero}}
+use Rattle.std.specs.Prelude.{◌≡◌, ◌≢◌, ℕ, ◌<◌, ◌≤◌, ◌==◌, Bool, true, false, if◌then◌else◌, [], ◌∷◌, ◌++◌}
+use Rattle.std.specs.Prelude.{length, fold}
+use Rattle.std.specs.{Int.{w16, w32, to_be_bytes}, Net.Grammar.IsDotted}
+use Rattle.domain_octets.specs.{Octets.Octets, Text.{dot, at_sign, backslash}}
 use Rattle.domain_names.specs.{Name.{Name, IsName, wire_of}, Text.NameText}
 use Rattle.domain_base.specs.Scan.{IsNumber}
 use Rattle.domain_bitmap.specs.Text.{SaltText, OwnerHashText}
 use Rattle.domain_svcb.specs.Strings.{StringText}
 use Rattle.domain_types.specs.{Table.MnemonicText, Fields.IsTag, Ttls.ttl_text, Times.StampText}
-use Rattle.domain_types.specs.Addresses.{EuiText, LocatorText}
+use Rattle.domain_types.specs.{Addresses.{LongAddressText, EuiText, LocatorText}, Prefixes.PrefixText}
 use Rattle.domain_types.specs.Mnemonics.{ByteOrMnemonic, ShortOrMnemonic, algorithm_names, certificate_names, scheme_names}
 use Rattle.domain_types.specs.declared.ttl.TtlText.{TheVariants.Seconds}
 use Rattle.domain_types.specs.declared.field.Field.{Field}
@@ -58,13 +57,14 @@ ShortText text octets = (n : ℕ) × IsNumber 16 text n × (octets ≡ to_be_byt
 abbrev pub LongText : Octets → Octets → Type 0
 LongText text octets = (n : ℕ) × IsNumber 32 text n × (octets ≡ to_be_bytes w32 n)
 
+-- a number up to a limit, in one octet
+abbrev pub LimitedText : ℕ → Octets → Octets → Type 0
+LimitedText limit text octets =
+    (n : ℕ) × IsNumber 8 text n × (n ≤ limit) × (octets ≡ n ∷ [])
+
 -- a type of records (RFC 3597, section 5)
 abbrev pub TypeField : Octets → Octets → Type 0
 TypeField text octets = (t : ℕ) × MnemonicText text t × (octets ≡ to_be_bytes w16 t)
-
--- an IPv6 address (RFC 4291, section 2.2)
-abbrev pub LongAddressText : Octets → Octets → Type 0
-LongAddressText text octets = (a : Ipv6Addr) × IsIpv6Text text a × (octets ≡ ipv6_octets a)
 
 -- a string of at most 255 octets, after its length
 abbrev pub StringField : Octets → Octets → Type 0
@@ -96,8 +96,8 @@ PeriodField text octets =
 abbrev pub TimeField : Octets → Octets → Type 0
 TimeField text octets = (n : ℕ) × StampText text n × (octets ≡ to_be_bytes w32 n)
 
--- the text spells the octets of a field that is no name; the kinds without a text of their own are
--- spelled by no text: their data are read in the generic form
+-- the text spells the octets of a field that is no name; the kinds that have no text of one token
+-- are spelled by no text
 abbrev pub PlainText : Field → Octets → Octets → Type 0
 PlainText fields.Number8 text octets = ByteText text octets
 PlainText fields.Number16 text octets = ShortText text octets
@@ -106,6 +106,8 @@ PlainText fields.Algorithm text octets = ByteOrMnemonic algorithm_names text oct
 PlainText fields.Scheme text octets = ByteOrMnemonic scheme_names text octets
 PlainText fields.CertificateType text octets = ShortOrMnemonic certificate_names text octets
 PlainText fields.RecordType text octets = TypeField text octets
+PlainText fields.Flag text octets = LimitedText 1 text octets
+PlainText fields.GatewayType text octets = LimitedText 3 text octets
 PlainText fields.Period text octets = PeriodField text octets
 PlainText fields.Time text octets = TimeField text octets
 PlainText fields.Ipv4 text octets = IsDotted text octets
@@ -117,6 +119,7 @@ PlainText fields.HashedOwner text octets = HashField text octets
 PlainText fields.Locator64 text octets = LocatorText text octets
 PlainText fields.Eui48 text octets = EuiText 6 text octets
 PlainText fields.Eui64 text octets = EuiText 8 text octets
+PlainText fields.Prefix text octets = PrefixText text octets
 PlainText _ text octets = ⊥
 
 -- the text spells the octets of a field of this kind

@@ -4,8 +4,8 @@ use Rattle.domain_octets.specs.Octets.{Octets}
 use Rattle.domain_base.specs.Numbers.{Named, NumberText, name_of}
 use Rattle.domain_types.specs.declared.field.Field.{Field, TheVariants.{Number8, Number16, Number32, Algorithm, Scheme, CertificateType, RecordType}}
 use Rattle.domain_types.specs.declared.field.Field.TheVariants.{Period, Time, LoweredName, Name, Ipv4, Ipv6, CharacterString, Tag, Salt, HashedOwner}
-use Rattle.domain_types.specs.declared.field.Field.TheVariants.{Locator64, Eui48, Eui64, Location, Gateway, Relay, HostIdentity, Prefix}
-use Rattle.domain_types.specs.declared.field.Tail.{Tail, TheVariants.{Nothing, Base16, Base64, Quoted, Opaque, Types, Parameters, Many, AtLeastOne, AtMostOne}}
+use Rattle.domain_types.specs.declared.field.Field.TheVariants.{Locator64, Eui48, Eui64, Prefix}
+use Rattle.domain_types.specs.declared.field.Tail.{Tail, TheVariants.{Nothing, Base16, Base64, Quoted, Opaque, Types, Parameters, GatewayAndKey, FlagAndRelay, IdentityAndServers, Coordinates, Many, AtLeastOne, AtMostOne}}
 use Rattle.domain_types.specs.declared.table.Row.{Row}
 
 -- a type: its number, its mnemonic, the fields of its data, and what follows them
@@ -77,7 +77,7 @@ type_rows =
     ∷ type_of 25 (codes "KEY") (Number16 ∷ Number8 ∷ Algorithm ∷ []) Base64
     ∷ type_of 26 (codes "PX") (Number16 ∷ LoweredName ∷ LoweredName ∷ []) Nothing
     ∷ type_of 27 (codes "GPOS") (CharacterString ∷ CharacterString ∷ CharacterString ∷ []) Nothing
-    ∷ type_of 29 (codes "LOC") (Location ∷ []) Nothing
+    ∷ type_of 29 (codes "LOC") [] Coordinates
     ∷ type_of 30 (codes "NXT") (LoweredName ∷ []) Opaque
     ∷ type_of 31 (codes "EID") [] Opaque
     ∷ type_of 32 (codes "NIMLOC") [] Opaque
@@ -88,10 +88,10 @@ type_rows =
     ∷ type_of 40 (codes "SINK") (Number8 ∷ Number8 ∷ Number8 ∷ []) Base64
     ∷ type_of 41 (codes "OPT") [] Opaque
     ∷ type_of 42 (codes "APL") [] (Many Prefix)
-    ∷ type_of 45 (codes "IPSECKEY") (Number8 ∷ Gateway ∷ []) Base64
+    ∷ type_of 45 (codes "IPSECKEY") (Number8 ∷ []) GatewayAndKey
     ∷ type_of 49 (codes "DHCID") [] Base64
     ∷ type_of 53 (codes "SMIMEA") (Number8 ∷ Number8 ∷ Number8 ∷ []) Base16
-    ∷ type_of 55 (codes "HIP") (HostIdentity ∷ []) (Many Name)
+    ∷ type_of 55 (codes "HIP") [] IdentityAndServers
     ∷ type_of 56 (codes "NINFO") [] (AtLeastOne CharacterString)
     ∷ type_of 57 (codes "RKEY") (Number16 ∷ Number8 ∷ Algorithm ∷ []) Base64
     ∷ type_of 58 (codes "TALINK") (Name ∷ Name ∷ []) Nothing
@@ -120,7 +120,7 @@ type_rows =
     ∷ type_of 256 (codes "URI") (Number16 ∷ Number16 ∷ []) Quoted
     ∷ type_of 258 (codes "AVC") [] (AtLeastOne CharacterString)
     ∷ type_of 259 (codes "DOA") (Number32 ∷ Number32 ∷ Number8 ∷ CharacterString ∷ []) Base64
-    ∷ type_of 260 (codes "AMTRELAY") (Number8 ∷ Relay ∷ []) Nothing
+    ∷ type_of 260 (codes "AMTRELAY") (Number8 ∷ []) FlagAndRelay
     ∷ type_of 261 (codes "RESINFO") [] (AtLeastOne CharacterString)
     ∷ type_of 262 (codes "WALLET") [] (AtLeastOne CharacterString)
     ∷ type_of 263 (codes "CLA") [] (AtLeastOne CharacterString)

@@ -78,7 +78,7 @@ fn split_group(text: &[u8]) -> Option<(u16, &[u8])>
 }
 
 /// Appends the two octets of a number.
-fn put_number(part: &mut Part, number: u16)
+pub(crate) fn put_number(part: &mut Part, number: u16)
     requires { length part.old ≤ 250 }
     ensures { part.new ≡ part.old ++ to_be_bytes w16 number }
 {

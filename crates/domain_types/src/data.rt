@@ -1,7 +1,7 @@
 //! Data of a type.
 ghost use Rattle.std.specs.Prelude.{◌≡◌, ◌↔◌, ℕ, ◌++◌, ◌≤◌, length, take, drop, map, IfSome, IfNone, IsTrue, OnErr, OnOk, slice_range};
 ghost use Rattle.std.specs.{Char.to_ascii_lowercase};
-ghost use Rattle.domain_types.specs.Fields.{IsTail, IsField, AreFieldOctets, AreMany};
+ghost use Rattle.domain_types.specs.Fields.{IsTail, IsField, BeginsWithField, IsIdentity, AreFieldOctets, AreMany};
 ghost use Rattle.domain_types.specs.Canonical.{IsData, lowered_fields, canonical_form};
 ghost use Rattle.domain_types.specs.declared.field.Tail.{Tail};
 
@@ -51,6 +51,26 @@ fn is_one(field: Field, octets: &[u8]) -> bool
     }
 }
 
+/// Returns whether octets begin with a field of a kind.
+fn begins_with(field: Field, octets: &[u8]) -> bool
+    ensures { IsTrue result ↔ BeginsWithField field octets.now }
+{
+    match field_len(field, octets) {
+        Some(_len) => true,
+        None => false,
+    }
+}
+
+/// Returns whether octets are a host identity, and then any number of names.
+fn is_identity(octets: &[u8]) -> bool
+    ensures { IsTrue result ↔ IsIdentity octets.now }
+{
+    match field_len(Field::HostIdentity, octets) {
+        Some(len) => are_many(Field::Name, &octets[len..]),
+        None => false,
+    }
+}
+
 /// Returns whether octets are this tail.
 fn is_tail(tail: Tail, octets: &[u8]) -> bool
     ensures { IsTrue result ↔ IsTail tail octets.now }
@@ -60,6 +80,10 @@ fn is_tail(tail: Tail, octets: &[u8]) -> bool
         Tail::Base16 | Tail::Base64 | Tail::Quoted | Tail::Opaque => true,
         Tail::Types => RtypeBitmap::from_octets(octets).is_ok(),
         Tail::Parameters => are_parameters(octets),
+        Tail::GatewayAndKey => begins_with(Field::Gateway, octets),
+        Tail::FlagAndRelay => is_one(Field::Relay, octets),
+        Tail::IdentityAndServers => is_identity(octets),
+        Tail::Coordinates => is_one(Field::Location, octets),
         Tail::Many(field) => are_many(field, octets),
         Tail::AtLeastOne(field) => !octets.is_empty() && are_many(field, octets),
         Tail::AtMostOne(field) => octets.is_empty() || is_one(field, octets),

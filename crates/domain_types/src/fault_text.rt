@@ -14,6 +14,8 @@ impl fmt::Display for Field {
             Field::Scheme => "a scheme of notifications",
             Field::CertificateType => "a type of certificates",
             Field::RecordType => "a type of records",
+            Field::Flag => "0 or 1",
+            Field::GatewayType => "a type of gateways: 0, 1, 2 or 3",
             Field::Period => "a period: seconds, or numbers with units",
             Field::Time => "a time: seconds, or YYYYMMDDHHmmSS",
             Field::LoweredName | Field::Name => "a name",
@@ -27,7 +29,7 @@ impl fmt::Display for Field {
             Field::Eui48 => "an EUI-48 address",
             Field::Eui64 => "an EUI-64 address",
             Field::Location => "a location",
-            Field::Gateway => "a gateway",
+            Field::Gateway => "a gateway, which is . for type 0",
             Field::Relay => "a relay",
             Field::HostIdentity => "a host identity",
             Field::Prefix => "a prefix of addresses",
@@ -46,6 +48,10 @@ impl fmt::Display for Tail {
             Tail::Opaque => f.write_str("the generic form \\#"),
             Tail::Types => f.write_str("types of records"),
             Tail::Parameters => f.write_str("parameters of a service"),
+            Tail::GatewayAndKey => f.write_str("a gateway and its key"),
+            Tail::FlagAndRelay => f.write_str("a relay"),
+            Tail::IdentityAndServers => f.write_str("a host identity"),
+            Tail::Coordinates => f.write_str("a part of a location, as in 52 14 5 N 0 8 50 E 10m"),
             Tail::Many(field) | Tail::AtLeastOne(field) | Tail::AtMostOne(field) => {
                 write!(f, "{field}")
             }

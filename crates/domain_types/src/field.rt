@@ -20,6 +20,11 @@ pub enum Field {
     CertificateType,
     /// A number of 16 bits that is a type of records (RFC 1035, section 3.2.2).
     RecordType,
+    /// A number of 8 bits that is 0 or 1, as the bit for discovery (RFC 8777, section 4.2.2).
+    Flag,
+    /// A number of 8 bits that is the type of a gateway, at most 3 (RFC 4025, section 2.3; RFC 8777,
+    /// section 4.2.3).
+    GatewayType,
     /// A number of seconds in 32 bits, which may have units (RFC 1035, section 3.3.13).
     Period,
     /// A time in 32 bits (RFC 4034, section 3.1.5).
@@ -96,6 +101,16 @@ pub enum Tail {
     Types,
     /// Parameters of a service, in the order of their keys (RFC 9460, section 2.2).
     Parameters,
+    /// The type of a gateway, an algorithm, the gateway, and its key in Base 64, which is absent
+    /// exactly for algorithm 0 (RFC 4025, section 3.1).
+    GatewayAndKey,
+    /// The bit for discovery, the type of a relay, and the relay (RFC 8777, section 4.3).
+    FlagAndRelay,
+    /// An algorithm, a host identity tag in Base 16, a public key in Base 64, and any number of
+    /// rendezvous servers (RFC 8005, section 6).
+    IdentityAndServers,
+    /// A latitude, a longitude, an altitude, and up to three precisions (RFC 1876, section 3).
+    Coordinates,
     /// Any number of fields of a kind.
     Many(Field),
     /// One or more fields of a kind.
@@ -118,6 +133,7 @@ impl Field {
     {
         match self {
             Field::Number8 | Field::Algorithm | Field::Scheme => Shape::Exactly(1),
+            Field::Flag | Field::GatewayType => Shape::Exactly(1),
             Field::Number16 | Field::CertificateType | Field::RecordType => Shape::Exactly(2),
             Field::Number32 | Field::Period | Field::Time | Field::Ipv4 => Shape::Exactly(4),
             Field::Eui48 => Shape::Exactly(6),

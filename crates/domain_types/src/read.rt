@@ -19,9 +19,12 @@ ghost use Rattle.std.specs.{List.concat, Prelude.MatchOption};
 use crate::bitmap::put_types;
 use crate::data::is_data;
 use crate::field::{Field, Tail};
+use crate::gateway::{put_gateway, put_relay};
+use crate::identity::put_identity;
+use crate::location::put_location;
 use crate::lookup::row_of;
 use crate::parameters::put_parameters;
-use crate::spell::spell;
+use crate::spell::{Part, spell};
 use crate::table::Row;
 use crate::token::{DataFault, DataFaultKind, Token, has_inner_quote};
 use base64::DecodeAllocError;
@@ -39,8 +42,28 @@ fn is_misquoted(field: Field, token: &Token<'_>) -> bool
     has_inner_quote(token) || token.is_quoted && field != Field::CharacterString
 }
 
-/// Appends the field that a token spells.
+/// Returns the octets of the field that a token spells.
 #[tactic(auto, using(std::proofs::lemmas::Grind::common_steps, crate::proofs::ReadLemmas::field_steps))]
+pub(crate) fn spell_token(
+    alloc: Global,
+    field: Field,
+    token: &Token<'_>,
+    origin: &ParsedName<'_>,
+) -> Result<Part, DataFaultKind>
+    ensures ok { IfOk result (SpellsField origin.now field (token_text token.now)) }
+    ensures err { IfErr result (TokenFault origin.now field (token_text token.now)) }
+{
+    if is_misquoted(field, token) {
+        return Err(DataFaultKind::Quoted);
+    }
+    match spell(alloc, field, token.octets, origin) {
+        Ok(part) => Ok(part),
+        Err(SpellFault::Invalid) => Err(DataFaultKind::NotField(field)),
+        Err(SpellFault::OutOfMemory) => Err(DataFaultKind::OutOfMemory),
+    }
+}
+
+/// Appends the field that a token spells.
 fn put_field(
     alloc: Global,
     field: Field,
@@ -53,13 +76,9 @@ fn put_field(
     ensures err { IfErr result (TokenFault origin.now field (token_text token.now)) }
     ensures same { OnErr result (out.new.items ≡ out.old.items) }
 {
-    if is_misquoted(field, token) {
-        return Err(DataFaultKind::Quoted);
-    }
-    let part = match spell(alloc, field, token.octets, origin) {
+    let part = match spell_token(alloc, field, token, origin) {
         Ok(part) => part,
-        Err(SpellFault::Invalid) => return Err(DataFaultKind::NotField(field)),
-        Err(SpellFault::OutOfMemory) => return Err(DataFaultKind::OutOfMemory),
+        Err(kind) => return Err(kind),
     };
     match out.extend_from_slice(part.as_slice()) {
         Ok(()) => Ok(()),
@@ -68,7 +87,7 @@ fn put_field(
 }
 
 /// Appends the fields of one kind that tokens spell, one each.
-fn put_many(
+pub(crate) fn put_many(
     alloc: Global,
     field: Field,
     tokens: &[Token<'_>],
@@ -137,7 +156,7 @@ fn join_tokens(alloc: Global, tokens: &[Token<'_>]) -> Result<Option<Vec<u8>>, A
 }
 
 /// Returns the octets that a text in Base 16 encodes.
-fn decode16(alloc: Global, text: &[u8]) -> Result<Vec<u8>, SpellFault>
+pub(crate) fn decode16(alloc: Global, text: &[u8]) -> Result<Vec<u8>, SpellFault>
     ensures ok { IfOk result (λ octets. Decodes codecs.Base16 text.now octets.items) }
     ensures err { IfErr result (SpellsNothing (Decodes codecs.Base16 text.now)) }
 {
@@ -149,7 +168,7 @@ fn decode16(alloc: Global, text: &[u8]) -> Result<Vec<u8>, SpellFault>
 }
 
 /// Returns the octets that a text in Base 64 encodes.
-fn decode64(alloc: Global, text: &[u8]) -> Result<Vec<u8>, SpellFault>
+pub(crate) fn decode64(alloc: Global, text: &[u8]) -> Result<Vec<u8>, SpellFault>
     ensures ok { IfOk result (λ octets. Decodes codecs.Base64 text.now octets.items) }
     ensures err { IfErr result (SpellsNothing (Decodes codecs.Base64 text.now)) }
 {
@@ -161,7 +180,7 @@ fn decode64(alloc: Global, text: &[u8]) -> Result<Vec<u8>, SpellFault>
 }
 
 /// Appends octets.
-fn append(octets: &[u8], out: &mut Vec<u8>) -> Result<(), DataFault>
+pub(crate) fn append(octets: &[u8], out: &mut Vec<u8>) -> Result<(), DataFault>
     ensures ok { OnOk result (out.new.items ≡ out.old.items ++ octets.now) }
     ensures err { IfErr result (λ e. (e.token ≡ 0) × (e.kind ≡ DataFaultKind.OutOfMemory)) }
     ensures same { OnErr result (out.new.items ≡ out.old.items) }
@@ -173,14 +192,14 @@ fn append(octets: &[u8], out: &mut Vec<u8>) -> Result<(), DataFault>
 }
 
 /// Returns a fault of the first token.
-fn first(kind: DataFaultKind) -> DataFault
+pub(crate) fn first(kind: DataFaultKind) -> DataFault
     ensures { result ≡ record { token = 0; kind = kind } }
 {
     DataFault { token: 0, kind }
 }
 
 /// Returns the fault of tokens that do not spell a tail.
-fn fault_of(fault: SpellFault, tail: Tail) -> DataFault
+pub(crate) fn fault_of(fault: SpellFault, tail: Tail) -> DataFault
     ensures { (result.token ≡ 0) × (result.kind ≡ tail_kind fault tail) }
 {
     match fault {
@@ -235,7 +254,11 @@ fn put_base16(alloc: Global, tokens: &[Token<'_>], out: &mut Vec<u8>) -> Result<
 
 /// Appends the octets that tokens encode in Base 64.
 #[tactic(auto, using(std::proofs::lemmas::Grind::common_steps, crate::proofs::ReadLemmas::base_texts, crate::proofs::ReadLemmas::base_fault))]
-fn put_base64(alloc: Global, tokens: &[Token<'_>], out: &mut Vec<u8>) -> Result<(), DataFault>
+pub(crate) fn put_base64(
+    alloc: Global,
+    tokens: &[Token<'_>],
+    out: &mut Vec<u8>,
+) -> Result<(), DataFault>
     ensures ok { OnOk result ((part : Octets)
         × BaseTexts codecs.Base64 (map token_text tokens.now) part
         × (out.new.items ≡ out.old.items ++ part)) }
@@ -307,6 +330,10 @@ fn put_tail(
         Tail::Opaque => Err(first(DataFaultKind::NoText)),
         Tail::Types => put_types(alloc, tokens, out),
         Tail::Parameters => put_parameters(alloc, tokens, out),
+        Tail::GatewayAndKey => put_gateway(alloc, tokens, origin, out),
+        Tail::FlagAndRelay => put_relay(alloc, tokens, origin, out),
+        Tail::IdentityAndServers => put_identity(alloc, tokens, origin, out),
+        Tail::Coordinates => put_location(tokens, out),
         Tail::Many(field) => put_many(alloc, field, tokens, origin, out),
         Tail::AtLeastOne(_) if tokens.is_empty() => Err(first(DataFaultKind::Missing)),
         Tail::AtLeastOne(field) => put_many(alloc, field, tokens, origin, out),

@@ -5,8 +5,9 @@ ghost use Rattle.domain_octets.specs.{Octets.Octets, Text.at_sign};
 ghost use Rattle.domain_base.specs.Scan.{IsNumber};
 ghost use Rattle.domain_names.specs.{Name.{wire_of, IsName}, Text.{NameText, NameTextFault, scan_fault_of}, Wire.{IsWire, labels_of}};
 ghost use Rattle.domain_types.specs.Spelling.{going_on, ends_in_dot, NameField, NameToken};
-ghost use Rattle.domain_types.specs.Spelling.{ByteText, ShortText, LongText, TypeField, TagText};
-ghost use Rattle.domain_types.specs.Spelling.{LongAddressText, StringField, PlainText, FieldSpelling};
+ghost use Rattle.domain_types.specs.Spelling.{ByteText, LimitedText, ShortText, LongText, TypeField, TagText};
+ghost use Rattle.domain_types.specs.Addresses.{LongAddressText};
+ghost use Rattle.domain_types.specs.Spelling.{StringField, PlainText, FieldSpelling};
 ghost use Rattle.domain_types.specs.Spelling.{PeriodField};
 ghost use Rattle.domain_svcb.specs.Strings.{SpellsNothing, StringText};
 ghost use Rattle.std.specs.Net.Grammar.{IsDotted};
@@ -19,6 +20,7 @@ use crate::measure::are_letters;
 use crate::named::{
     algorithms, certificates, schemes, spell_byte_or_mnemonic, spell_short_or_mnemonic,
 };
+use crate::prefix::spell_prefix;
 use crate::time::spell_time;
 use crate::ttl::{TtlText, read_ttl};
 use domain_base::{MAX_NAME, Name, ParsedName, ScanError, ToName};
@@ -252,6 +254,19 @@ fn spell_byte(text: &[u8]) -> Option<Part>
     Some(part_of(&[number]))
 }
 
+/// Returns the octet of the number up to a limit that a token spells.
+fn spell_limited(limit: u8, text: &[u8]) -> Option<Part>
+    ensures some { IfSome result (LimitedText limit text.now) }
+    ensures none { IfNone result ((octets : Octets) → LimitedText limit text.now octets → ⊥) }
+{
+    let number = u8::try_from(number(text)?).ok()?;
+    if number <= limit {
+        Some(part_of(&[number]))
+    } else {
+        None
+    }
+}
+
 /// Returns the two octets of the number that a token spells.
 fn spell_short(text: &[u8]) -> Option<Part>
     ensures some { IfSome result (ShortText text.now) }
@@ -291,7 +306,7 @@ fn spell_type(text: &[u8]) -> Option<Part>
 }
 
 /// Returns the octets of the IPv4 address that a token spells.
-fn spell_ipv4(text: &[u8]) -> Option<Part>
+pub(crate) fn spell_ipv4(text: &[u8]) -> Option<Part>
     ensures some { IfSome result (IsDotted text.now) }
     ensures none { IfNone result ((octets : Octets) → IsDotted text.now octets → ⊥) }
 {
@@ -302,7 +317,7 @@ fn spell_ipv4(text: &[u8]) -> Option<Part>
 }
 
 /// Returns the octets of the IPv6 address that a token spells.
-fn spell_ipv6(text: &[u8]) -> Option<Part>
+pub(crate) fn spell_ipv6(text: &[u8]) -> Option<Part>
     ensures some { IfSome result (LongAddressText text.now) }
     ensures none { IfNone result ((octets : Octets) → LongAddressText text.now octets → ⊥) }
 {
@@ -324,6 +339,8 @@ fn spell_plain(alloc: Global, field: Field, text: &[u8]) -> Option<Part>
         Field::Number16 => spell_short(text),
         Field::CertificateType => spell_short_or_mnemonic(certificates(), text),
         Field::Number32 => spell_long(text),
+        Field::Flag => spell_limited(1, text),
+        Field::GatewayType => spell_limited(3, text),
         Field::Time => spell_time(text),
         Field::Period => spell_period(text),
         Field::RecordType => spell_type(text),
@@ -336,6 +353,7 @@ fn spell_plain(alloc: Global, field: Field, text: &[u8]) -> Option<Part>
         Field::Locator64 => spell_locator(text),
         Field::Eui48 => spell_eui(6, text),
         Field::Eui64 => spell_eui(8, text),
+        Field::Prefix => spell_prefix(text),
         _ => None,
     }
 }

@@ -60,3 +60,12 @@ returns-in-Eui48-clause-none c = rw c.in-Eui48.is c.spell_eui.ensures.none
 
 pub returns-in-Eui64-clause-none : goal.returns-in-Eui64-clause-none
 returns-in-Eui64-clause-none c = rw c.in-Eui64.is c.spell_eui-in-Eui64.ensures.none
+
+pub returns-in-Flag-clause-none : goal.returns-in-Flag-clause-none
+returns-in-Flag-clause-none c = rw c.in-Flag.is c.spell_limited.ensures.none
+
+pub returns-in-GatewayType-clause-none : goal.returns-in-GatewayType-clause-none
+returns-in-GatewayType-clause-none c = rw c.in-GatewayType.is c.spell_limited-in-GatewayType.ensures.none
+
+pub returns-in-Prefix-clause-none : goal.returns-in-Prefix-clause-none
+returns-in-Prefix-clause-none c = rw c.in-Prefix.is c.spell_prefix.ensures.none

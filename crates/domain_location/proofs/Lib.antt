@@ -1,0 +1,2 @@
+pub mod DecimalLemmas
+pub mod LengthLemmas
