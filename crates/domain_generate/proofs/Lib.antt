@@ -3,3 +3,4 @@ pub mod PatternLemmas
 pub mod NumberLemmas
 pub mod RangeLemmas
 pub mod GenerateLemmas
+pub mod TextLemmas

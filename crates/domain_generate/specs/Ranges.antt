@@ -1,5 +1,5 @@
 -- The values of `$GENERATE`: START-STOP or START-STOP/STEP, in decimal digits.
-use Rattle.std.specs.Prelude.{ℕ, ◌+◌, ◌-◌, ◌*◌, ◌/◌, ◌^◌, ◌≤◌, ◌==◌, ◌&&◌, Option, Some, None, if◌then◌else◌, nat_le, nat_lt, length}
+use Rattle.std.specs.Prelude.{ℕ, ◌+◌, ◌-◌, ◌*◌, ◌/◌, ◌^◌, ◌≤◌, ◌==◌, ◌&&◌, ◌++◌, ◌∷◌, ◌≡◌, Option, Some, None, if◌then◌else◌, nat_le, nat_lt, length}
 use Rattle.std.specs.{List.{before_first, after_first, position_or_len}, Option.option_and_then}
 use Rattle.domain_octets.specs.{Octets.Octets, Text.{dash, slash}}
 use Rattle.domain_zonefile.specs.ZoneClasses.{decimal_from}
@@ -59,6 +59,15 @@ abbrev pub range_of : Octets → Option ValueRange
 range_of text =
     option_and_then (λ start. option_and_then (range_from start) (behind_first dash text))
     (plain_number (before_first (λ c. c == dash) text))
+
+-- the text is a range: START-STOP, or START-STOP/STEP
+pub data RangeText (range : ValueRange) : Octets → Type 0 where
+  without_step : (start stop : Octets) → plain_number start ≡ Some range.start
+      → plain_number stop ≡ Some range.stop → range.step ≡ 1 → IsRange range
+      → RangeText range (start ++ dash ∷ stop)
+  with_step : (start stop step : Octets) → plain_number start ≡ Some range.start
+      → plain_number stop ≡ Some range.stop → plain_number step ≡ Some range.step
+      → IsRange range → RangeText range (start ++ dash ∷ (stop ++ slash ∷ step))
 
 -- ---- values
 
