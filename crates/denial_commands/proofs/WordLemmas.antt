@@ -2,7 +2,9 @@
 use Rattle.std.proofs.Common.{◌≡◌, ℕ, ◌+◌, ◌-◌, ◌<◌, ◌≤◌, Bool, true, false, List, [], ◌∷◌, ◌++◌, length, map, Some, Result, drop, get_or, take}
 use Rattle.std.proofs.Common.{IfErr, Ok, Err, String, Global, arith, ap, refl, subst, string_bytes, codes, sym, ◌∙◌, append_assoc}
 use Rattle.std.proofs.lemmas.{Grind.common_steps, List.length-map, Slice.Eq.bytes_eq-Decides}
+use Rattle.domain_octets.specs.Octets.{Octets}
 use Rattle.domain_names.specs.Name.{Tokens}
+use Rattle.domain_includes.specs.Files.{Contents}
 use Rattle.lint_program.specs.declared.outcome.Outcome.{Outcome}
 use Rattle.denial_commands.specs.{Command.{answer_options, IsSubcommand}, Run.{RunsAs, RunsCommand, Setup}, Zone.{HasNoApex, HasNoApexAs}}
 use Rattle.denial_commands.specs.declared.{command.Subcommand.Subcommand, fault.CommandFault.CommandFault}
@@ -25,16 +27,17 @@ rest_of : (x : String Global) (xs : List (String Global)) → take (length (x �
 rest_of x xs = grind (arith, common_steps)
 
 -- the first word chooses the row
-pub runs_as : {W : Type 0} (words : List (String Global)) (word : String Global) (on : Setup W) (result : Result Outcome CommandFault)
-    (subcommand : Subcommand) → 1 ≤ length words → word ≡ get_or words 0 word → IsSubcommand (string_bytes word) subcommand
-    → RunsAs subcommand (string_bytes word) (map string_bytes (take (length words - 1) (drop 1 words))) on result
-    → RunsCommand (map string_bytes words) on result
-runs_as [] word on result subcommand some first named run = absurd (omega (arith, some))
-runs_as (x ∷ xs) word on result subcommand some first named run = (
+pub runs_as : {W : Type 0} (gives : Contents) (path : Octets) (words : List (String Global)) (word : String Global) (on : Setup W)
+    (result : Result Outcome CommandFault) (subcommand : Subcommand) → 1 ≤ length words → word ≡ get_or words 0 word
+    → IsSubcommand (string_bytes word) subcommand
+    → RunsAs gives path subcommand (string_bytes word) (map string_bytes (take (length words - 1) (drop 1 words))) on result
+    → RunsCommand gives path (map string_bytes words) on result
+runs_as gives path [] word on result subcommand some first named run = absurd (omega (arith, some))
+runs_as gives path (x ∷ xs) word on result subcommand some first named run = (
   subcommand,
   subst (λ w. IsSubcommand (string_bytes w) subcommand) first named,
-  subst (λ ws. RunsAs subcommand (string_bytes x) (map string_bytes ws) on result) (rest_of x xs)
-      (subst (λ w. RunsAs subcommand (string_bytes w) (map string_bytes (take (length (x ∷ xs) - 1) xs)) on result) first run),
+  subst (λ ws. RunsAs gives path subcommand (string_bytes x) (map string_bytes ws) on result) (rest_of x xs)
+      (subst (λ w. RunsAs gives path subcommand (string_bytes w) (map string_bytes (take (length (x ∷ xs) - 1) xs)) on result) first run),
 )
 
 -- the words behind the first name no apex

@@ -8,7 +8,7 @@ use Rattle.domain_names.specs.Name.{Name}
 use Rattle.domain_includes.specs.Files.{Contents, PassesFiles, PlacedRecord, TakesAll, took_none, took_one}
 use Rattle.zone_program.specs.Lines.{AreLinesOf, has_line, text_of_lines, with_lines, zone_line}
 use Rattle.zone_program.specs.Places.{AreHeld, place_held, place_of_record, places_of}
-use Rattle.zone_program.specs.Sink.{TakesLine}
+use Rattle.zone_program.specs.Sink.{TakesZoneLine}
 use Rattle.zone_program.specs.declared.{places.ZoneLines.ZoneLines, sink.LineSink.LineSink}
 
 -- ---- lines of a record and others
@@ -41,7 +41,7 @@ pub record TookLines (old : LineSink) (records : List PlacedRecord) (new : LineS
   pub text : string_bytes new.lines.text ≡ string_bytes old.lines.text ++ text_of_lines (with_lines old.is_unsigned records)
   pub places : AreHeld old.lines → places_of new.lines ≡ places_of old.lines ++ map place_of_record (with_lines old.is_unsigned records)
 
-pub took_lines : (old new : LineSink) (records : List PlacedRecord) → TakesAll TakesLine old records new → TookLines old records new
+pub took_lines : (old new : LineSink) (records : List PlacedRecord) → TakesAll TakesZoneLine old records new → TookLines old records new
 took_lines old new [] (took_none s) = record { text = sym (append-nil _); places = λ held. sym (append-nil _) }
 took_lines old new (r ∷ more) (took_one o between n r' more' first others) =
     let rest = took_lines between new more others in record {
@@ -60,7 +60,7 @@ took_lines old new (r ∷ more) (took_one o between n r' more' first others) =
 
 -- the lines of a sink that had none, and took the records of a file
 pub lines_made : (gives : Contents) (path file : Octets) (origin : Name) (is_unsigned : Bool) (old new : LineSink) (lines : ZoneLines)
-    → PassesFiles gives TakesLine path file origin old new → old.is_unsigned ≡ is_unsigned → string_bytes old.lines.text ≡ []
+    → PassesFiles gives TakesZoneLine path file origin old new → old.is_unsigned ≡ is_unsigned → string_bytes old.lines.text ≡ []
     → old.lines.places.items ≡ [] → lines ≡ new.lines → AreLinesOf gives path file origin is_unsigned lines
 lines_made gives path file origin is_unsigned old new lines passed flag text none is =
     let took = took_lines old new passed.records passed.taken in

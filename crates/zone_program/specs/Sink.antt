@@ -5,7 +5,7 @@ use Rattle.zone_program.specs.{Lines.{text_of_lines, with_lines}, Places.{AreHel
 use Rattle.zone_program.specs.declared.sink.LineSink.{LineSink}
 
 -- a sink took a record: its line and place were appended, if it has a line
-pub record TakesLine (old : LineSink) (r : PlacedRecord) (new : LineSink) : Type 0 where
+pub record TakesZoneLine (old : LineSink) (r : PlacedRecord) (new : LineSink) : Type 0 where
   pub same : new.is_unsigned ≡ old.is_unsigned
   pub text : string_bytes new.lines.text
       ≡ string_bytes old.lines.text ++ text_of_lines (with_lines old.is_unsigned (r ∷ []))

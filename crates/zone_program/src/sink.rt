@@ -1,7 +1,7 @@
 //! The sink that makes lines of records.
 ghost use Rattle.std.specs.Prelude.{◌≡◌, ◌≤◌, ◌++◌, [], length, Option, OnOk, string_bytes};
 ghost use Rattle.domain_zonefile.specs.Records.{record_with};
-ghost use Rattle.zone_program.specs.{Lines.{has_line, is_of_signer, zone_line}, Sink.TakesLine};
+ghost use Rattle.zone_program.specs.{Lines.{has_line, is_of_signer, zone_line}, Sink.TakesZoneLine};
 
 use crate::places::ZoneLines;
 use domain_base::{Class, ParsedName, Rtype, ToName, Ttl};
@@ -78,7 +78,7 @@ impl LineSink {
 }
 
 impl RecordSink for LineSink {
-    ghost takes = { TakesLine };
+    ghost takes = { TakesZoneLine };
 
     fn take(
         &mut self,
