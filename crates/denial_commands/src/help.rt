@@ -32,9 +32,9 @@ usage: denial nsec APEX [--zone FILE]
     denial --version         (or -V) prints the version
 
 --zone FILE reads a zone file; - is standard input. Names are relative to APEX until $ORIGIN.
-Paths of $INCLUDE are relative to the folder of the file; $GENERATE is not read. nsec, nsec3 and
-lint leave out the NSEC, NSEC3, NSEC3PARAM and RRSIG records of a signed file. A mistake is reported
-as FILE:LINE:COLUMN, and nothing is printed then:
+Paths of $INCLUDE are relative to the folder of the file. nsec, nsec3 and lint leave out the NSEC,
+NSEC3, NSEC3PARAM and RRSIG records of a signed file. A mistake is reported as FILE:LINE:COLUMN, and
+nothing is printed then:
 
     $ printf '$TTL 1h\n@ SOA b c 1 2 3 4 1800\nn A 192.0.2.1\n' | ./denial nsec a. --zone -
     a. 1800 IN NSEC n.a. SOA RRSIG NSEC DNSKEY
@@ -139,8 +139,8 @@ const ZONE: &str = r"usage: denial zone APEX [unsigned]
 
 Prints the records of a zone file, one a line, as the other commands read them without --zone. APEX
 is the origin until $ORIGIN. unsigned leaves out NSEC, NSEC3, NSEC3PARAM and RRSIG records. Append a
-file name to read it instead of standard input: paths of $INCLUDE are relative to its folder.
-$GENERATE is not read. A mistake is reported with its line and column, and nothing is printed then:
+file name to read it instead of standard input: paths of $INCLUDE are relative to its folder. A
+mistake is reported with its line and column, and nothing is printed then:
 
     $ printf '$TTL 1h\n@ SOA b c 1 2 3 4 1800\n' | ./denial zone a. | ./denial nsec a.
     a. 1800 IN NSEC a. SOA RRSIG NSEC DNSKEY

@@ -1,5 +1,6 @@
 -- Decimal numbers with a point.
-use Rattle.std.proofs.Common.{◌≡◌, ℕ, zero, suc, ◌+◌, ◌-◌, ◌*◌, ◌<◌, ◌≤◌, List, [], ◌∷◌, ◌++◌, length, get_or, take, drop, refl, sym, ap, ◌∙◌, subst, arith, length-append}
+use Rattle.std.proofs.Common.{◌≡◌, ℕ, zero, suc, ◌+◌, ◌-◌, ◌*◌, ◌<◌, ◌≤◌, List, [], ◌∷◌, ◌++◌, length, get_or, take, drop}
+use Rattle.std.proofs.Common.{refl, sym, ap, ◌∙◌, subst, arith, length-append}
 use Rattle.std.proofs.Common.{drop-cons, add-one}
 use Rattle.std.proofs.lemmas.{List.{take_rest, take-append-drop}}
 use Rattle.std.specs.{Prelude.{slice_index, replicate}, Char.digit_value, Str.Parse.{AllDigits, digits_value, digits_value_after}}
@@ -49,7 +50,8 @@ point_at (c ∷ whole) fraction = point_at whole fraction
 
 point_in : (text whole fraction : List ℕ) → text ≡ whole ++ 46 ∷ fraction → LacksPoint text → ⊥
 point_in text whole fraction parts none =
-    none (length whole) (omega (arith, ap length parts, length-append whole (46 ∷ fraction))) (ap (λ t. slice_index t (length whole)) parts ∙ point_at whole fraction)
+    none (length whole) (omega (arith, ap length parts, length-append whole (46 ∷ fraction))) (ap
+    (λ t. slice_index t (length whole)) parts ∙ point_at whole fraction)
 
 pub heads_are : (x y : ℕ) (xs ys : List ℕ) → x ∷ xs ≡ y ∷ ys → x ≡ y
 heads_are x y xs ys same = ap (λ l. slice_index l 0) same
@@ -126,7 +128,8 @@ pub zeros_over : (places limit n front number : ℕ) (whole fraction zeros : Lis
     → (AllDigits 10 zeros → limit < digits_value_after 10 number zeros) → ⊥
 zeros_over places limit n front number whole fraction zeros is fits front_is number_is zeros_are none =
     let all : AllDigits 10 zeros = subst (AllDigits 10) (sym zeros_are) (all_zeros (places - length fraction)) in
-    let same : digits_value_after 10 number zeros ≡ n = ap (λ x. digits_value_after 10 x zeros) (number_is ∙ ap (λ x. digits_value_after 10 x fraction) front_is)
+    let same : digits_value_after 10 number zeros ≡ n = ap (λ x. digits_value_after 10 x zeros) (number_is
+    ∙ ap (λ x. digits_value_after 10 x fraction) front_is)
     ∙ ap (digits_value_after 10 (digits_value_after 10 (digits_value_after 10 0 whole) fraction)) zeros_are ∙ sym is.value in
     omega (arith, none all, same, fits)
 

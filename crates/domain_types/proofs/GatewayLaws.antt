@@ -7,7 +7,8 @@ use Rattle.domain_types.specs.Fields.{BeginsWithField, IsField, IsGateway, absen
 use Rattle.domain_types.specs.Spelling.{LimitedText}
 use Rattle.domain_types.specs.Reading.{TokenText, SpellsField, TokenFault, FirstToken, FirstTokenFault, FirstOctet, gateway_field, gateway_type}
 use Rattle.domain_types.specs.Reading.{SpellsGateway, GatewayTokenFault, HeadTexts, HeadFault, at_first, at_second, at_gateway}
-use Rattle.domain_types.specs.Reading.{KeyTexts, no_key, some_key, KeyFault, key_of_none, not_key, GatewayTexts, GatewayFault, in_gateway, in_key, gateway_memory}
+use Rattle.domain_types.specs.Reading.{KeyTexts, no_key, some_key, KeyFault, key_of_none, not_key}
+use Rattle.domain_types.specs.Reading.{GatewayTexts, GatewayFault, in_gateway, in_key, gateway_memory}
 use Rattle.domain_types.specs.Reading.{RelayTexts, RelayFault, in_relay, after_relay, relay_memory}
 use Rattle.domain_codecs.specs.declared.codec.Codec.TheVariants as codecs
 use Rattle.domain_types.specs.declared.field.Field.{Field}
@@ -69,13 +70,16 @@ abbrev SpellsOne : Name → Field → Type 0
 SpellsOne origin field = (token : TokenText) (x y : ℕ) → SpellsField origin field token (x ∷ []) → SpellsField origin field token (y ∷ []) → x ≡ y
 
 one_type : (origin : Name) → SpellsOne origin fields.GatewayType
-one_type origin token x y is also = head_is x is.text.0 [] [] is.text.3 ∙ is.text.1.value ∙ sym also.text.1.value ∙ sym (head_is y also.text.0 [] [] also.text.3)
+one_type origin token x y is also =
+    head_is x is.text.0 [] [] is.text.3 ∙ is.text.1.value ∙ sym also.text.1.value ∙ sym (head_is y also.text.0 [] [] also.text.3)
 
 one_flag : (origin : Name) → SpellsOne origin fields.Flag
-one_flag origin token x y is also = head_is x is.text.0 [] [] is.text.3 ∙ is.text.1.value ∙ sym also.text.1.value ∙ sym (head_is y also.text.0 [] [] also.text.3)
+one_flag origin token x y is also =
+    head_is x is.text.0 [] [] is.text.3 ∙ is.text.1.value ∙ sym also.text.1.value ∙ sym (head_is y also.text.0 [] [] also.text.3)
 
 one_byte : (origin : Name) → SpellsOne origin fields.Number8
-one_byte origin token x y is also = head_is x is.text.0 [] [] is.text.2 ∙ is.text.1.value ∙ sym also.text.1.value ∙ sym (head_is y also.text.0 [] [] also.text.2)
+one_byte origin token x y is also =
+    head_is x is.text.0 [] [] is.text.2 ∙ is.text.1.value ∙ sym also.text.1.value ∙ sym (head_is y also.text.0 [] [] also.text.2)
 
 one_octet : (origin : Name) (field : Field) (tokens first other : List TokenText) (x y : ℕ) → SpellsOne origin field
     → FirstOctet origin field tokens x first → FirstOctet origin field tokens y other → (x ≡ y) × (first ≡ other)

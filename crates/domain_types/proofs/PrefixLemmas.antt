@@ -1,5 +1,6 @@
 -- Prefixes of addresses that a text spells.
-use Rattle.std.proofs.Common.{◌≡◌, ℕ, zero, suc, ◌+◌, ◌-◌, ◌*◌, ◌%◌, ◌<◌, ◌≤◌, List, [], ◌∷◌, ◌++◌, length, get_or, take, drop, refl, sym, ap, ◌∙◌, subst, arith, length-append}
+use Rattle.std.proofs.Common.{◌≡◌, ℕ, zero, suc, ◌+◌, ◌-◌, ◌*◌, ◌%◌, ◌<◌, ◌≤◌, List, [], ◌∷◌, ◌++◌, length, get_or, take, drop}
+use Rattle.std.proofs.Common.{refl, sym, ap, ◌∙◌, subst, arith, length-append}
 use Rattle.std.proofs.Common.{Option, Some, None, IfSome, IfNone}
 use Rattle.std.proofs.lemmas.{Grind.common_steps, List.{take-append-drop}}
 use Rattle.std.specs.{Prelude.slice_index, Net.Grammar.IsDotted, Char.digit_value, Str.Parse.IsNumeral}
@@ -34,7 +35,8 @@ mark_at mark (c ∷ front) back = mark_at mark front back
 -- a text with a mark does not lack it
 pub mark_in : (mark : ℕ) (text front back : List ℕ) → text ≡ front ++ mark ∷ back → Lacks mark text → ⊥
 mark_in mark text front back parts none =
-    none (length front) (omega (arith, ap length parts, length-append front (mark ∷ back))) (ap (λ t. slice_index t (length front)) parts ∙ mark_at mark front back)
+    none (length front) (omega (arith, ap length parts, length-append front (mark ∷ back))) (ap
+    (λ t. slice_index t (length front)) parts ∙ mark_at mark front back)
 
 first_parts : (mark : ℕ) (a b x y : List ℕ) → a ++ mark ∷ x ≡ b ++ mark ∷ y → Lacks mark a → Lacks mark b → (a ≡ b) × (x ≡ y)
 first_parts mark [] [] x y same none also = (refl, tails_are mark mark x y same)

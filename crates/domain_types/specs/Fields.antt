@@ -9,7 +9,8 @@ use Rattle.domain_types.specs.declared.field.Field.{Field}
 use Rattle.domain_types.specs.declared.field.Field.TheVariants as fields
 use Rattle.domain_types.specs.declared.field.Shape.{Shape}
 use Rattle.domain_types.specs.declared.field.Shape.TheVariants.{Exactly, Domain, Counted, Word, AfterTwo, AfterOne, TwoCounted, CountedInBits}
-use Rattle.domain_types.specs.declared.field.Tail.{Tail, TheVariants.{Nothing, Base16, Base64, Quoted, Opaque, Types, Parameters, GatewayAndKey, FlagAndRelay, IdentityAndServers, Coordinates, Many, AtLeastOne, AtMostOne}}
+use Rattle.domain_types.specs.declared.field.Tail.{Tail, TheVariants.{Nothing, Base16, Base64, Quoted, Opaque, Types, Parameters, Many, AtLeastOne, AtMostOne}}
+use Rattle.domain_types.specs.declared.field.Tail.TheVariants.{GatewayAndKey, FlagAndRelay, IdentityAndServers, Coordinates}
 
 -- ---- the fields, by their shapes
 

@@ -529,8 +529,8 @@ pub data LocationFault (tokens : List TokenText) (place : ℕ) (kind : DataFault
 
 -- ---- all tails
 
--- the tokens spell the octets of this tail; the kinds without a text of their own are spelled by no
--- tokens: their data are read in the generic form
+-- the tokens spell the octets of this tail; opaque octets are spelled by no tokens: their data are
+-- read in the generic form
 abbrev pub TailTexts : Name → Tail → List TokenText → Octets → Type 0
 TailTexts origin tails.Nothing tokens octets = (tokens ≡ []) × (octets ≡ [])
 TailTexts origin tails.Base16 tokens octets = BaseTexts codecs.Base16 tokens octets

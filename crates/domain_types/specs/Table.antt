@@ -5,7 +5,8 @@ use Rattle.domain_base.specs.Numbers.{Named, NumberText, name_of}
 use Rattle.domain_types.specs.declared.field.Field.{Field, TheVariants.{Number8, Number16, Number32, Algorithm, Scheme, CertificateType, RecordType}}
 use Rattle.domain_types.specs.declared.field.Field.TheVariants.{Period, Time, LoweredName, Name, Ipv4, Ipv6, CharacterString, Tag, Salt, HashedOwner}
 use Rattle.domain_types.specs.declared.field.Field.TheVariants.{Locator64, Eui48, Eui64, Prefix}
-use Rattle.domain_types.specs.declared.field.Tail.{Tail, TheVariants.{Nothing, Base16, Base64, Quoted, Opaque, Types, Parameters, GatewayAndKey, FlagAndRelay, IdentityAndServers, Coordinates, Many, AtLeastOne, AtMostOne}}
+use Rattle.domain_types.specs.declared.field.Tail.{Tail, TheVariants.{Nothing, Base16, Base64, Quoted, Opaque, Types, Parameters, Many, AtLeastOne, AtMostOne}}
+use Rattle.domain_types.specs.declared.field.Tail.TheVariants.{GatewayAndKey, FlagAndRelay, IdentityAndServers, Coordinates}
 use Rattle.domain_types.specs.declared.table.Row.{Row}
 
 -- a type: its number, its mnemonic, the fields of its data, and what follows them

@@ -22,8 +22,8 @@ pub enum Field {
     RecordType,
     /// A number of 8 bits that is 0 or 1, as the bit for discovery (RFC 8777, section 4.2.2).
     Flag,
-    /// A number of 8 bits that is the type of a gateway, at most 3 (RFC 4025, section 2.3; RFC 8777,
-    /// section 4.2.3).
+    /// A number of 8 bits that is the type of a gateway, at most 3 (RFC 4025, section 2.3; RFC
+    /// 8777, section 4.2.3).
     GatewayType,
     /// A number of seconds in 32 bits, which may have units (RFC 1035, section 3.3.13).
     Period,

@@ -16,8 +16,7 @@
 //! begins octets in at most one way, so data are their fields in one way. What is read is data of
 //! the type, and tokens with a fault spell none. The module `laws` has these laws.
 //!
-//! Data of some kinds are read in the generic form only: locations, gateways, host identities and
-//! address prefixes, and data of old types.
+//! Data of old types, whose tail is `Opaque`, are read in the generic form only.
 #![tactic(auto)]
 
 mod address;
