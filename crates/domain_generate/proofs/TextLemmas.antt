@@ -5,7 +5,8 @@ use Rattle.std.proofs.lemmas.Grind.{common_steps}
 use Rattle.std.specs.{Prelude.{◌==◌, ◌&&◌, if◌then◌else◌, nat_le, unwrap_or}, List.{before_first, position_or_len}, Char.is_ascii_digit, Option.option_and_then}
 use Rattle.domain_octets.specs.{Octets.Octets, Text.{dash, slash}}
 use Rattle.domain_zonefile.specs.ZoneClasses.{decimal_from}
-use Rattle.domain_generate.specs.Ranges.{IsRange, RangeText, at_most, behind_first, checked_range, largest_number, plain_number, range_from, range_of, step_of}
+use Rattle.domain_generate.specs.Ranges.{IsRange, RangeText, at_most, behind_first, checked_range}
+use Rattle.domain_generate.specs.Ranges.{largest_number, plain_number, range_from, range_of, range_step}
 use Rattle.domain_generate.specs.Ranges.{with_step, without_step}
 use Rattle.domain_generate.specs.declared.range.ValueRange.{ValueRange}
 
@@ -73,13 +74,13 @@ step_by text rest tail start stop range a b cut cut' (Some step) d h = read_step
 
 tail_by : (text rest : Octets) (start stop : ℕ) (range : ValueRange) → plain_number (before_first (λ e. e == dash) text) ≡ Some start
     → plain_number (before_first (λ e. e == slash) rest) ≡ Some stop → behind_first dash text ≡ Some rest → (tail : Option Octets)
-    → behind_first slash rest ≡ tail → option_and_then (λ n. checked_range start stop n) (step_of tail) ≡ Some range → RangeText range text
+    → behind_first slash rest ≡ tail → option_and_then (λ n. checked_range start stop n) (range_step tail) ≡ Some range → RangeText range text
 tail_by text rest start stop range a b cut None whole h = read_whole text rest start stop range a b cut whole h
 tail_by text rest start stop range a b cut (Some tail) cut' h = step_by text rest tail start stop range a b cut cut' (plain_number tail) refl h
 
 stop_by : (text rest : Octets) (start : ℕ) (range : ValueRange) → plain_number (before_first (λ e. e == dash) text) ≡ Some start
     → behind_first dash text ≡ Some rest → (stop : Option ℕ) → plain_number (before_first (λ e. e == slash) rest) ≡ stop
-    → option_and_then (λ m. option_and_then (λ n. checked_range start m n) (step_of (behind_first slash rest))) stop ≡ Some range → RangeText range text
+    → option_and_then (λ m. option_and_then (λ n. checked_range start m n) (range_step (behind_first slash rest))) stop ≡ Some range → RangeText range text
 stop_by text rest start range a cut None b h = absurd (none_some h)
 stop_by text rest start range a cut (Some stop) b h = tail_by text rest start stop range a b cut (behind_first slash rest) refl h
 

@@ -42,16 +42,16 @@ checked_range start stop step =
     else None
 
 -- the step that a text spells, and 1 if it is left out
-abbrev pub step_of : Option Octets → Option ℕ
-step_of None = Some 1
-step_of (Some text) = plain_number text
+abbrev pub range_step : Option Octets → Option ℕ
+range_step None = Some 1
+range_step (Some text) = plain_number text
 
 -- the range from this number up to what a text spells
 abbrev pub range_from : ℕ → Octets → Option ValueRange
 range_from start text =
     option_and_then (λ stop.
     option_and_then (λ step. checked_range start stop step)
-    (step_of (behind_first slash text)))
+    (range_step (behind_first slash text)))
     (plain_number (before_first (λ c. c == slash) text))
 
 -- the range that a text spells

@@ -1,6 +1,6 @@
 //! The values of `$GENERATE`: START-STOP or START-STOP/STEP.
 ghost use Rattle.std.specs.Prelude.{◌≡◌, IfSome, option_copied};
-ghost use Rattle.domain_generate.specs.Ranges.{IsRange, range_of, checked_range, step_of, value_count, value_at, last_value};
+ghost use Rattle.domain_generate.specs.Ranges.{IsRange, range_of, checked_range, range_step, value_count, value_at, last_value};
 
 use crate::cut::{cut, read_number};
 
@@ -19,8 +19,8 @@ pub struct ValueRange {
 }
 
 /// Returns the step that a text spells, and 1 if it is left out.
-fn step_of(text: Option<&[u8]>) -> Option<u32>
-    ensures { result ≡ step_of (option_copied text.entry) }
+fn range_step(text: Option<&[u8]>) -> Option<u32>
+    ensures { result ≡ range_step (option_copied text.entry) }
 {
     match text {
         Some(text) => read_number(text),
@@ -48,7 +48,7 @@ pub(crate) fn read_range(text: &[u8]) -> Option<ValueRange>
     let start = read_number(start)?;
     let (stop, step) = cut(rest?, b'/');
     let stop = read_number(stop)?;
-    let step = step_of(step)?;
+    let step = range_step(step)?;
     checked_range(start, stop, step)
 }
 

@@ -15,17 +15,19 @@ use Rattle.domain_includes.specs.declared.fault.FilesFault.{FilesFault, TheVaria
 use Rattle.domain_includes.proofs.FilesLemmas.{takes_all}
 
 -- the values from number `i` on decide on all of them, after these records
-pub record ValuesPassed {S : Type 0} (takes : S → PlacedRecord → S → Type 0) (path : Octets) (at : Place) (g : Generated) (s : State) (old : S) (i : ℕ) (now : State) (sink : S)
-    : Type 0 where
+pub record ValuesPassed {S : Type 0} (takes : S → PlacedRecord → S → Type 0) (path : Octets) (at : Place) (g : Generated) (s : State) (old : S)
+    (i : ℕ) (now : State) (sink : S) : Type 0 where
   pub before : List FileRecord
   pub taken : TakesAll takes old (map (record_at path at) before) sink
   pub on : (more : List FileRecord) (end : State) → GeneratedRecords g i now more end → GeneratedRecords g 0 s (before ++ more) end
   pub fault : (kind : FileFaultKind) → FirstFaultOfValues g kind i now → FirstFaultOfValues g kind 0 s
 
-pub values_none : {S : Type 0} (takes : S → PlacedRecord → S → Type 0) (path : Octets) (at : Place) (g : Generated) (s : State) (old : S) → ValuesPassed takes path at g s old 0 s old
+pub values_none : {S : Type 0} (takes : S → PlacedRecord → S → Type 0) (path : Octets) (at : Place) (g : Generated) (s : State) (old : S)
+    → ValuesPassed takes path at g s old 0 s old
 values_none takes path at g s old = record { before = []; taken = took_none old; on = λ more end h. h; fault = λ kind h. h }
 
-pub values_more : {S : Type 0} (takes : S → PlacedRecord → S → Type 0) (path : Octets) (at : Place) (g : Generated) (s : State) (old : S) (i : ℕ) (now : State) (sink : S) (value : ℕ)
+pub values_more : {S : Type 0} (takes : S → PlacedRecord → S → Type 0) (path : Octets) (at : Place) (g : Generated) (s : State) (old : S)
+    (i : ℕ) (now : State) (sink : S) (value : ℕ)
     (after : State) (new : S) → ValuesPassed takes path at g s old i now sink → value_at g.range i ≡ Some value
     → PassesLine takes path at now (generated_line g value) sink after new → ValuesPassed takes path at g s old (i + 1) after new
 values_more takes path at g s old i now sink value after new p is (inl empty) = rw (empty.1, empty.2) (record {
@@ -46,7 +48,8 @@ values_more takes path at g s old i now sink value after new p is (inr line) = r
   fault = λ kind h. p.fault kind (after_value i value now line.0 after is line.1 h);
 }
 
-pub values_end : {S : Type 0} (takes : S → PlacedRecord → S → Type 0) (path : Octets) (at : Place) (g : Generated) (s : State) (old : S) (i : ℕ) (now : State) (sink : S)
+pub values_end : {S : Type 0} (takes : S → PlacedRecord → S → Type 0) (path : Octets) (at : Place) (g : Generated) (s : State) (old : S)
+    (i : ℕ) (now : State) (sink : S)
     → ValuesPassed takes path at g s old i now sink → value_at g.range i ≡ None → PassesValues takes path at g 0 s old now sink
 values_end takes path at g s old i now sink p none = record {
   records = p.before;
@@ -54,7 +57,8 @@ values_end takes path at g s old i now sink p none = record {
   taken = p.taken;
 }
 
-pub values_fault : {S : Type 0} (takes : S → PlacedRecord → S → Type 0) (path : Octets) (at : Place) (g : Generated) (s : State) (old : S) (i : ℕ) (now : State) (sink : S) (value : ℕ)
+pub values_fault : {S : Type 0} (takes : S → PlacedRecord → S → Type 0) (path : Octets) (at : Place) (g : Generated) (s : State) (old : S)
+    (i : ℕ) (now : State) (sink : S) (value : ℕ)
     (place : Place) (fault : FilesFault) → ValuesPassed takes path at g s old i now sink → value_at g.range i ≡ Some value
     → IsLineFault now (generated_line g value) place fault → IsFaultOfValues g s place fault
 values_fault takes path at g s old i now sink value place (File fault) p is h = (p.fault fault.kind (in_value i value now is h.0), h.1, h.2)

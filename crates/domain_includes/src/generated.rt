@@ -34,8 +34,8 @@ fn pass_line<S: RecordSink>(
     data: &mut Vec<u8>,
     sink: &mut S,
 ) -> Result<(), FilesFault>
-    ensures ok { OnOk result (PassesLine S.takes path.now place state.old line.now sink.old state.new
-        sink.new) }
+    ensures ok { OnOk result (PassesLine S.takes path.now place state.old line.now sink.old
+        state.new sink.new) }
     ensures err { IfErr result (IsLineFault state.old line.now place) }
 {
     data.clear();
@@ -68,8 +68,8 @@ fn pass_values<S: RecordSink>(
     data: &mut Vec<u8>,
     sink: &mut S,
 ) -> Result<(), FilesFault>
-    ensures ok { OnOk result (PassesValues S.takes path.now place generation.now 0 state.old sink.old
-        state.new sink.new) }
+    ensures ok { OnOk result (PassesValues S.takes path.now place generation.now 0 state.old
+        sink.old state.new sink.new) }
     ensures err { IfErr result (IsFaultOfValues generation.now state.old place) }
 {
     let mut line = Vec::new(alloc);
@@ -98,8 +98,9 @@ fn state_of(alloc: Global, reader: &ZoneReader<'_>) -> Result<ZoneState, OutOfMe
     }
 }
 
-/// Passes the records of the entry `$GENERATE` that was read last, of the file at a path, to the sink. Origin and owner
-/// stay. The TTL default, the last TTL and the last class are those after the last value.
+/// Passes the records of the entry `$GENERATE` that was read last, of the file at a path, to the
+/// sink. Origin and owner stay. The TTL default, the last TTL and the last class are those after
+/// the last value.
 pub(crate) fn pass_generated<S: RecordSink>(
     alloc: Global,
     path: &[u8],

@@ -10,7 +10,8 @@ pub values-preserved : goal.values-preserved
 values-preserved g c =
     let there = sym c.value.ensures.value ∙ c.in-Some.is in
     let line = c.as_slice.ensures.value ∙ c.in-Ok.ensures.ok in
-    let more = values_more g.S.RecordSink.takes c.args.path.now c.args.place c.args.generation.now c.args.state.now c.args.sink.now c.values.index c.values.state c.values.sink
+    let more = values_more g.S.RecordSink.takes c.args.path.now c.args.place c.args.generation.now c.args.state.now c.args.sink.now
+    c.values.index c.values.state c.values.sink
     c.in-Some.value c.pass_line.new.state c.pass_line.new.sink c.values.invariant.passed there (rw line at c.in-Ok-pass_line.ensures.ok) in
     record { few = omega (arith, c.in-Some.ensures.few); passed = more }
 
@@ -18,10 +19,12 @@ pub returns-in-Err-pass_line-clause-err : goal.returns-in-Err-pass_line-clause-e
 returns-in-Err-pass_line-clause-err g c =
     let there = sym c.value.ensures.value ∙ c.in-Some.is in
     let line = c.as_slice.ensures.value ∙ c.in-Ok.ensures.ok in
-    values_fault g.S.RecordSink.takes c.args.path.now c.args.place c.args.generation.now c.args.state.now c.args.sink.now c.values.index c.values.state c.values.sink
+    values_fault g.S.RecordSink.takes c.args.path.now c.args.place c.args.generation.now c.args.state.now c.args.sink.now
+    c.values.index c.values.state c.values.sink
     c.in-Some.value c.args.place c.in-Err-pass_line.fault c.values.invariant.passed there (rw line at c.in-Err-pass_line.ensures.err)
 
 pub returns-clause-ok : goal.returns-clause-ok
 returns-clause-ok g c =
-    values_end g.S.RecordSink.takes c.args.path.now c.args.place c.args.generation.now c.args.state.now c.args.sink.now c.values.index c.values.state c.values.sink
+    values_end g.S.RecordSink.takes c.args.path.now c.args.place c.args.generation.now c.args.state.now c.args.sink.now
+    c.values.index c.values.state c.values.sink
     c.values.invariant.passed (sym c.value.ensures.value ∙ none_left c.value.result c.in_default.not-Some)
