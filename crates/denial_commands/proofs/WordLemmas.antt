@@ -1,6 +1,6 @@
 -- The words of a command.
 use Rattle.std.proofs.Common.{◌≡◌, ℕ, ◌+◌, ◌-◌, ◌<◌, ◌≤◌, Bool, true, false, List, [], ◌∷◌, ◌++◌, length, map, Some, Result, drop, get_or, take}
-use Rattle.std.proofs.Common.{IfErr, Ok, Err, String, Global, arith, ap, refl, subst, string_bytes, codes, sym, ◌∙◌, append_assoc}
+use Rattle.std.proofs.Common.{IfErr, Ok, Err, String, Global, arith, ap, refl, subst, string_bytes, codes, ◌∙◌, append_assoc}
 use Rattle.std.proofs.lemmas.{Grind.common_steps, List.length-map, Slice.Eq.bytes_eq-Decides}
 use Rattle.domain_octets.specs.Octets.{Octets}
 use Rattle.domain_names.specs.Name.{Tokens}

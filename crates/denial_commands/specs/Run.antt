@@ -1,5 +1,5 @@
 -- What a run of each command promises, one row a command.
-use Rattle.std.specs.Prelude.{◌≡◌, ◌∷◌, [], List, Option, Result, Ok, Err, IfErr, IfOk, IfSome, IsErrOf, MatchResult, OnOk}
+use Rattle.std.specs.Prelude.{◌≡◌, ◌∷◌, [], Option, Result, Ok, Err, IfErr, IfOk, IfSome, IsErrOf, MatchResult, OnOk}
 use Rattle.std.specs.{Io.KnownBytes.Appends, Str.Lines.lines}
 use Rattle.domain_octets.specs.Octets.{Octets}
 use Rattle.domain_names.specs.Name.{Name, Token, Tokens}

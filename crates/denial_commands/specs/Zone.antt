@@ -10,7 +10,7 @@ use Rattle.denial_program.specs.declared.fault.DenialFault.TheVariants as denial
 use Rattle.judge_program.specs.Command.{AsksToJudgeAbout, IsNoJudgeCommand}
 use Rattle.lint_program.specs.{Command.{AsksToLint, IsNoLintCommand}, declared.outcome.Outcome.Outcome}
 use Rattle.zone_program.specs.Lines.{AreLinesOf, NoLines}
-use Rattle.zone_program.specs.declared.{places.ZoneLines.ZoneLines, fault.ZoneFault.{ZoneFault, TheVariants.{Usage as zone_usage}}}
+use Rattle.zone_program.specs.declared.{places.ZoneLines.ZoneLines, fault.ZoneFault.TheVariants.{Usage as zone_usage}}
 use Rattle.denial_commands.specs.{Command.{answer_words, IsSubcommand}, Run.{RunsCommand, Setup}, Source.is_one_of}
 use Rattle.denial_commands.specs.declared.command.Subcommand.{Subcommand, TheVariants.{Denial, Judge, Answer, Lint, Zone}}
 use Rattle.denial_commands.specs.declared.{zone.ZoneRun.ZoneRun, fault.ZoneRunFault.{ZoneRunFault, TheVariants.{Command, File, Records}}}
