@@ -6,7 +6,7 @@ use Rattle.domain_names.specs.Name.{Name, IsName}
 use Rattle.domain_types.specs.Fields.{BeginsWithField, IsField, IsGateway, absent, ipv4, ipv6, named}
 use Rattle.domain_types.specs.Spelling.{LimitedText}
 use Rattle.domain_types.specs.Reading.{TokenText, SpellsField, TokenFault, FirstToken, FirstTokenFault, FirstOctet, gateway_field, gateway_type}
-use Rattle.domain_types.specs.Reading.{SpellsGateway, GatewayTokenFault, HeadTexts, HeadFault, at_first, at_second, at_gateway}
+use Rattle.domain_types.specs.Reading.{SpellsGateway, GatewayTokenFault, GatewayHead, GatewayHeadFault, at_first, at_second, at_gateway}
 use Rattle.domain_types.specs.Reading.{KeyTexts, no_key, some_key, KeyFault, key_of_none, not_key}
 use Rattle.domain_types.specs.Reading.{GatewayTexts, GatewayFault, in_gateway, in_key, gateway_memory}
 use Rattle.domain_types.specs.Reading.{RelayTexts, RelayFault, in_relay, after_relay, relay_memory}
@@ -108,8 +108,8 @@ no_gateway origin field (token ∷ tokens) left kind octets wrong real is =
     gateway_token_none origin field token kind octets wrong real (subst (λ t. SpellsGateway origin field t octets) (sym same.0) is.holds)
 
 head_none : (origin : Name) (first second : Field) (tokens left : List TokenText) (place : ℕ) (kind : DataFaultKind) (a b : ℕ) (gateway : List ℕ)
-    → SpellsOne origin first → SpellsOne origin second → HeadFault origin first second tokens place kind → (kind ≡ OutOfMemory → ⊥)
-    → HeadTexts origin first second tokens a b gateway left → ⊥
+    → SpellsOne origin first → SpellsOne origin second → GatewayHeadFault origin first second tokens place kind → (kind ≡ OutOfMemory → ⊥)
+    → GatewayHead origin first second tokens a b gateway left → ⊥
 head_none origin first second tokens left place kind a b gateway of_first of_second (at_first at wrong) real is =
     octet_none origin first tokens is.after_a kind a wrong real is.of_a
 head_none origin first second tokens left place kind a b gateway of_first of_second (at_second x after_x at has wrong) real is =
@@ -127,8 +127,8 @@ head_none origin first second tokens left place kind a b gateway of_first of_sec
 
 -- the numbers that tokens begin with, and what is left, are known
 one_head : (origin : Name) (first second : Field) (tokens left other : List TokenText) (a b x y : ℕ) (gateway also_gateway : List ℕ)
-    → SpellsOne origin first → SpellsOne origin second → HeadTexts origin first second tokens a b gateway left
-    → HeadTexts origin first second tokens x y also_gateway other → (b ≡ y) × (left ≡ other)
+    → SpellsOne origin first → SpellsOne origin second → GatewayHead origin first second tokens a b gateway left
+    → GatewayHead origin first second tokens x y also_gateway other → (b ≡ y) × (left ≡ other)
 one_head origin first second tokens left other a b x y gateway also_gateway of_first of_second is also =
     let same = one_octet origin first tokens is.after_a also.after_a a x of_first is.of_a also.of_a in
     let next = one_octet origin second is.after_a is.after_b also.after_b b y of_second is.of_b

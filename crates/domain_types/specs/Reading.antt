@@ -210,7 +210,7 @@ gateway_type GatewayType a b = a
 gateway_type first a b = b
 
 -- the tokens begin with two fields of one octet, one of them the type of a gateway, and the gateway
-pub record HeadTexts (origin : Name) (first second : Field) (tokens : List TokenText) (a b : ℕ)
+pub record GatewayHead (origin : Name) (first second : Field) (tokens : List TokenText) (a b : ℕ)
     (gateway : Octets) (left : List TokenText) : Type 0 where
   pub after_a : List TokenText
   pub of_a : FirstOctet origin first tokens a after_a
@@ -220,19 +220,19 @@ pub record HeadTexts (origin : Name) (first second : Field) (tokens : List Token
       SpellsGateway origin (gateway_field (gateway_type first a b)) token gateway) after_b left
 
 -- the first fault of tokens that have to begin so, by its place
-pub data HeadFault (origin : Name) (first second : Field) (tokens : List TokenText) (place : ℕ)
+pub data GatewayHeadFault (origin : Name) (first second : Field) (tokens : List TokenText) (place : ℕ)
     (kind : DataFaultKind) : Type 0 where
   at_first : place ≡ 0 → FirstTokenFault (TokenFault origin first) tokens kind
-      → HeadFault origin first second tokens place kind
+      → GatewayHeadFault origin first second tokens place kind
   at_second : (a : ℕ) (after_a : List TokenText) → place ≡ 1
       → FirstOctet origin first tokens a after_a
       → FirstTokenFault (TokenFault origin second) after_a kind
-      → HeadFault origin first second tokens place kind
+      → GatewayHeadFault origin first second tokens place kind
   at_gateway : (a b : ℕ) (after_a after_b : List TokenText) → place ≡ 2
       → FirstOctet origin first tokens a after_a → FirstOctet origin second after_a b after_b
       → FirstTokenFault (GatewayTokenFault origin (gateway_field (gateway_type first a b))) after_b
       kind
-      → HeadFault origin first second tokens place kind
+      → GatewayHeadFault origin first second tokens place kind
 
 -- the tokens spell the key of a gateway, which is absent exactly for algorithm 0
 pub data KeyTexts (algorithm : ℕ) (tokens : List TokenText) (octets : Octets) : Type 0 where
@@ -256,7 +256,7 @@ pub record GatewayTexts (origin : Name) (tokens : List TokenText) (octets : Octe
   pub algorithm : ℕ
   pub gateway : Octets
   pub left : List TokenText
-  pub head : HeadTexts origin GatewayType Number8 tokens kind algorithm gateway left
+  pub head : GatewayHead origin GatewayType Number8 tokens kind algorithm gateway left
   pub key : Octets
   pub last : KeyTexts algorithm left key
   pub wire : octets ≡ kind ∷ algorithm ∷ (gateway ++ key)
@@ -264,10 +264,10 @@ pub record GatewayTexts (origin : Name) (tokens : List TokenText) (octets : Octe
 -- the first fault of tokens that have to spell these, by its place
 pub data GatewayFault (origin : Name) (tokens : List TokenText) (place : ℕ)
     (kind : DataFaultKind) : Type 0 where
-  in_gateway : HeadFault origin GatewayType Number8 tokens place kind
+  in_gateway : GatewayHeadFault origin GatewayType Number8 tokens place kind
       → GatewayFault origin tokens place kind
   in_key : (a algorithm : ℕ) (gateway : Octets) (left : List TokenText) (before : ℕ)
-      → HeadTexts origin GatewayType Number8 tokens a algorithm gateway left
+      → GatewayHead origin GatewayType Number8 tokens a algorithm gateway left
       → place ≡ 3 + before → KeyFault algorithm left before kind
       → GatewayFault origin tokens place kind
   gateway_memory : kind ≡ OutOfMemory → GatewayFault origin tokens place kind
@@ -278,16 +278,16 @@ pub record RelayTexts (origin : Name) (tokens : List TokenText) (octets : Octets
   pub flag : ℕ
   pub kind : ℕ
   pub relay : Octets
-  pub head : HeadTexts origin Flag GatewayType tokens flag kind relay []
+  pub head : GatewayHead origin Flag GatewayType tokens flag kind relay []
   pub wire : octets ≡ (128 * flag + kind) ∷ relay
 
 -- the first fault of tokens that have to spell these, by its place
 pub data RelayFault (origin : Name) (tokens : List TokenText) (place : ℕ) (kind : DataFaultKind)
     : Type 0 where
-  in_relay : HeadFault origin Flag GatewayType tokens place kind
+  in_relay : GatewayHeadFault origin Flag GatewayType tokens place kind
       → RelayFault origin tokens place kind
   after_relay : (a b : ℕ) (relay : Octets) (left : List TokenText)
-      → HeadTexts origin Flag GatewayType tokens a b relay left → 0 < length left → place ≡ 3
+      → GatewayHead origin Flag GatewayType tokens a b relay left → 0 < length left → place ≡ 3
       → kind ≡ Extra → RelayFault origin tokens place kind
   relay_memory : kind ≡ OutOfMemory → RelayFault origin tokens place kind
 

@@ -5,7 +5,7 @@ ghost use Rattle.domain_types.specs.Fields.{shape_of};
 ghost use Rattle.domain_types.specs.declared.field.Shape.TheVariants.{Exactly};
 ghost use Rattle.domain_types.specs.Reading.{token_text, TokenFault, FirstToken, FirstTokenFault};
 ghost use Rattle.domain_types.specs.Reading.{FirstOctet, gateway_field, gateway_type};
-ghost use Rattle.domain_types.specs.Reading.{SpellsGateway, GatewayTokenFault, HeadTexts, HeadFault};
+ghost use Rattle.domain_types.specs.Reading.{SpellsGateway, GatewayTokenFault, GatewayHead, GatewayHeadFault};
 ghost use Rattle.domain_types.specs.Reading.{KeyTexts, KeyFault, GatewayTexts, GatewayFault};
 ghost use Rattle.domain_types.specs.Reading.{RelayTexts, RelayFault};
 ghost use Rattle.domain_svcb.specs.Strings.{Grows};
@@ -117,12 +117,12 @@ fn read_head(
 ) -> Result<Head, DataFault>
     requires first { shape_of first ≡ Exactly 1 }
     requires second { shape_of second ≡ Exactly 1 }
-    ensures ok { IfOk result (λ head. HeadTexts origin.now first second
+    ensures ok { IfOk result (λ head. GatewayHead origin.now first second
         (map token_text tokens.now) head.first head.second head.gateway
         (drop 3 (map token_text tokens.now))) }
     ensures some { IfOk result (λ _. 3 ≤ length tokens.now) }
     ensures err { IfErr result (λ e.
-        HeadFault origin.now first second (map token_text tokens.now) e.token e.kind) }
+        GatewayHeadFault origin.now first second (map token_text tokens.now) e.token e.kind) }
     ensures place { IfErr result (λ e. e.token ≤ length tokens.now) }
 {
     let a = match first_octet(alloc, first, tokens, origin) {

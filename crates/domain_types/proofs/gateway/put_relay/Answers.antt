@@ -1,6 +1,6 @@
 use Rattle.std.proofs.Common.{◌≡◌, ◌<◌, ◌+◌, ◌*◌, ◌∷◌, ◌++◌, [], length, map, drop, subst, refl, ap, ◌∙◌, arith}
 use Rattle.std.proofs.lemmas.{Grind.common_steps, List.length-map, Bool.Decides.nat_tests}
-use Rattle.domain_types.specs.Reading.{token_text, HeadTexts, in_relay, after_relay}
+use Rattle.domain_types.specs.Reading.{token_text, GatewayHead, in_relay, after_relay}
 use Rattle.domain_types.specs.declared.field.Field.TheVariants.{Flag, GatewayType}
 use Rattle.domain_types.proofs.gateway.put_relay.Goals as goal
 
@@ -24,7 +24,7 @@ returns-in-Ok-append_both-clause-ok c =
         flag = head.first;
         kind = head.second;
         relay = head.gateway;
-        head = subst (HeadTexts c.args.origin.now Flag GatewayType tokens head.first head.second head.gateway) none c.in-Ok.ensures.ok;
+        head = subst (GatewayHead c.args.origin.now Flag GatewayType tokens head.first head.second head.gateway) none c.in-Ok.ensures.ok;
         wire = refl;
       },
       c.in-Ok-append_both.ensures.ok ∙ ap (λ g. c.args.out.now.items ++ (128 * head.first + head.second) ∷ g) c.as_slice.ensures,
