@@ -11,13 +11,13 @@ mod progress;
 use crate::files::{Extra, SystemFiles, open_extra, path_of, read_all};
 use crate::progress::TellingHasher;
 use denial_commands::{
-    CommandFault, Explanation, FileFault, PlacedReport, ZoneRunFault, has_extra_word, run_command,
-    run_over_zone, shown_text, take_zone,
+    CommandFault, Explanation, FileFault, PlacedReport, RecordFaults, ZoneRunFault, has_extra_word,
+    lint_lines, run_command, run_over_zone, shown_text, take_zone,
 };
 use denial_program::{BUFFER, DenialFault, ParamFlags, fault_of, words_of};
 use std::io::{BufReader, BufWriter, IsTerminal, Read, Write};
 use std::process::ExitCode;
-use std::{io, str};
+use std::{io, slice, str};
 
 /// Prints a fault of the process, and returns its exit status.
 fn fail(rt: &HostRuntime, fault: DenialFault) -> u8 {
@@ -102,11 +102,60 @@ fn run_records(rt: &HostRuntime, words: &[String]) -> u8 {
     }
 }
 
+/// Returns whether a command makes a chain. Its second word is then the apex.
+fn makes_chain(command: &str) -> bool {
+    matches!(command, "nsec" | "nsec3")
+}
+
+/// Returns the report of `lint` on the lines of a zone file, if no chain is made for a fault of
+/// their records: it names these records.
+fn report_on(
+    rt: &HostRuntime,
+    words: &[String],
+    fault: &ZoneRunFault,
+) -> Result<Vec<u8>, DenialFault> {
+    let (alloc, hasher) = (rt.alloc(), TellingHasher::new(rt));
+    match (words, fault) {
+        (
+            [command, apex, ..],
+            ZoneRunFault::Records(
+                CommandFault::Denial(DenialFault::Signing(_) | DenialFault::MixedClasses),
+                lines,
+            ),
+        ) if makes_chain(command.as_str()) => lint_lines(
+            alloc,
+            slice::from_ref(apex),
+            lines,
+            &hasher,
+        ),
+        _ => Ok(Vec::new(alloc)),
+    }
+}
+
+/// Prints the faults of the records of a zone file, each with its place.
+fn print_faults(rt: &HostRuntime, name: &str, fault: &ZoneRunFault, report: &[u8]) {
+    if let ZoneRunFault::Records(_, lines) = fault
+        && let Ok(report) = str::from_utf8(report)
+    {
+        let path = path_of(name);
+        let placed = PlacedReport {
+            report,
+            lines,
+            path,
+        };
+        let _ = eprint!(rt; "{}", RecordFaults { file: name, placed });
+    }
+}
+
 /// Prints why a run over a zone file stops, and returns the exit status.
 fn fail_over_zone(rt: &HostRuntime, words: &[String], name: &str, fault: &ZoneRunFault) -> u8 {
     if let ZoneRunFault::Command(fault) = fault {
         explain(rt, words, fault);
     }
+    let report = match report_on(rt, words, fault) {
+        Ok(report) => report,
+        Err(fault) => return fail(rt, fault),
+    };
     let path = path_of(name);
     let _ = eprintln!(rt;
         "{}",
@@ -116,6 +165,7 @@ fn fail_over_zone(rt: &HostRuntime, words: &[String], name: &str, fault: &ZoneRu
             fault
         }
     );
+    print_faults(rt, name, fault, report.as_slice());
     fault.status()
 }
 

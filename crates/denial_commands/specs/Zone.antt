@@ -1,5 +1,5 @@
 -- A run of a command over the records of a zone file.
-use Rattle.std.specs.{Prelude.{◌≡◌, ◌⊎◌, ◌||◌, [], ◌∷◌, Bool, false, Option, Some, Result, Ok, Err, codes, string_bytes}, Str.bytes_eq}
+use Rattle.std.specs.{Prelude.{◌≡◌, ◌⊎◌, ◌||◌, [], ◌∷◌, Bool, false, Option, Some, Result, Ok, Err, codes, string_bytes}, Str.{bytes_eq, Lines.lines}}
 use Rattle.domain_octets.specs.Octets.{Octets}
 use Rattle.domain_names.specs.Name.{Name, Token, Tokens}
 use Rattle.domain_nsec3.specs.View.{HasherAnswer}
@@ -8,7 +8,7 @@ use Rattle.denial_program.specs.Command.{AsksAbout, IsNoCommand, Params}
 use Rattle.denial_program.specs.declared.{answer.ParamFlags.TheVariants.{Zero as zero_flags}, fault.DenialFault.DenialFault}
 use Rattle.denial_program.specs.declared.fault.DenialFault.TheVariants as denial_fault
 use Rattle.judge_program.specs.Command.{AsksToJudgeAbout, IsNoJudgeCommand}
-use Rattle.lint_program.specs.{Command.{AsksToLint, IsNoLintCommand}, declared.outcome.Outcome.Outcome}
+use Rattle.lint_program.specs.{Command.{AsksToLint, IsNoLintCommand}, Report.IsReport, declared.outcome.Outcome.Outcome}
 use Rattle.zone_program.specs.Lines.{AreLinesOf, NoLines}
 use Rattle.zone_program.specs.declared.{places.ZoneLines.ZoneLines, fault.ZoneFault.TheVariants.{Usage as zone_usage}}
 use Rattle.denial_commands.specs.{Command.{answer_words, IsSubcommand}, Run.{RunsCommand, Setup}, Source.is_one_of}
@@ -113,3 +113,9 @@ RunsOverZone gives path words file answers old new before after (Err (Command fa
     HasNoApex words fault × (after ≡ before)
 RunsOverZone gives path words file answers old new before after (Err (File fault)) =
     (apex : Name) × IsAbout words apex × NoLines gives path file apex fault × (after ≡ before)
+
+-- the report of `lint` with these arguments on a text
+abbrev pub IsReportOf : HasherAnswer → Tokens → Octets → Octets → Type 0
+IsReportOf answers words text report =
+    (apex : Name) × (p : Option Params) × (outcome : Outcome) × AsksToLint words apex p
+    × IsReport answers (lines text) apex p outcome report

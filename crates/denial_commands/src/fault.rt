@@ -85,6 +85,32 @@ pub struct FileFault<'a> {
     pub fault: &'a ZoneRunFault,
 }
 
+/// The place of the record of a line of a zone file: `FILE:LINE`, or in an included file
+/// `PATH:LINE`.
+#[derive(Clone, Copy)]
+pub struct LinePlace<'a> {
+    /// The name of the file.
+    pub file: &'a str,
+    /// The path of the file, or nothing for standard input.
+    pub path: &'a [u8],
+    /// The lines of the records of the file.
+    pub lines: &'a ZoneLines,
+    /// The number of one of them, from 1.
+    pub number: usize,
+}
+
+impl fmt::Display for LinePlace<'_> {
+    fn fmt<W: fmt::Write>(&self, f: &mut fmt::Formatter<W>) -> fmt::Result {
+        match self.lines.place_of(self.number) {
+            Some(place) if place.path != self.path => {
+                write!(f, "{}:{}", PathText(place.path), place.line)
+            }
+            Some(place) => write!(f, "{}:{}", self.file, place.line),
+            None => f.write_str(self.file),
+        }
+    }
+}
+
 impl FileFault<'_> {
     /// Writes the place of the record of a line, and what is wrong with it.
     fn write_record<W: fmt::Write>(
@@ -93,13 +119,14 @@ impl FileFault<'_> {
         lines: &ZoneLines,
         number: usize,
     ) -> fmt::Result {
-        match lines.place_of(number) {
-            Some(place) if place.path != self.path => {
-                write!(f, "{}:{}: bad record", PathText(place.path), place.line)
-            }
-            Some(place) => write!(f, "{}:{}: bad record", self.file, place.line),
-            None => write!(f, "{}: bad record", self.file),
-        }
+        let (file, path) = (self.file, self.path);
+        let place = LinePlace {
+            file,
+            path,
+            lines,
+            number,
+        };
+        write!(f, "{place}: bad record")
     }
 
     /// Writes a fault of the records of the file.

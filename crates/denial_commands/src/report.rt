@@ -1,4 +1,6 @@
-//! The report of `lint` on a zone file, with the places of the records.
+//! The report of `lint` on a zone file, and the faults of its records, with the places of the
+//! records.
+use crate::fault::LinePlace;
 use domain_includes::PathText;
 use std::fmt;
 use zone_program::ZoneLines;
@@ -14,6 +16,17 @@ pub struct PlacedReport<'a> {
     pub lines: &'a ZoneLines,
     /// The path of the zone file, or nothing for standard input.
     pub path: &'a [u8],
+}
+
+/// The faults of the records of a zone file for which `nsec` rejects them, one a line, as
+/// `FILE:LINE: TEXT`, or in an included file `PATH:LINE: TEXT`. They are in the report of `lint` on
+/// the records.
+#[derive(Clone, Copy)]
+pub struct RecordFaults<'a> {
+    /// The name of the file.
+    pub file: &'a str,
+    /// The report on the records.
+    pub placed: PlacedReport<'a>,
 }
 
 /// A text that begins with the number of a line.
@@ -57,6 +70,50 @@ impl PlacedReport<'_> {
             }
             None => write!(f, "line {text}"),
         }
+    }
+}
+
+impl RecordFaults<'_> {
+    /// Writes a fault, which the report has behind `zone: `.
+    fn write_fault<W: fmt::Write>(&self, f: &mut fmt::Formatter<W>, text: &str) -> fmt::Result {
+        let numbered = match text.strip_prefix("line ") {
+            Some(text) => split_number(text),
+            None => None,
+        };
+        let Some(Numbered { number, rest }) = numbered else {
+            let fault = PlacedReport {
+                report: text,
+                ..self.placed
+            };
+            return writeln!(f, "denial: {}: {fault}", self.file);
+        };
+        let PlacedReport { lines, path, .. } = self.placed;
+        let file = self.file;
+        let fault = PlacedReport {
+            report: rest,
+            ..self.placed
+        };
+        writeln!(
+            f,
+            "{}{fault}",
+            LinePlace {
+                file,
+                path,
+                lines,
+                number
+            }
+        )
+    }
+}
+
+impl fmt::Display for RecordFaults<'_> {
+    fn fmt<W: fmt::Write>(&self, f: &mut fmt::Formatter<W>) -> fmt::Result {
+        for line in self.placed.report.lines() {
+            if let Some(fault) = line.strip_prefix("zone: ") {
+                self.write_fault(f, fault)?;
+            }
+        }
+        Ok(())
     }
 }
 

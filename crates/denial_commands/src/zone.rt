@@ -2,8 +2,9 @@
 ghost use Rattle.std.specs.Prelude.{◌≡◌, map, string_bytes, IfOk, IfErr};
 ghost use Rattle.denial_program.specs.Command.{AsksAbout};
 ghost use Rattle.judge_program.specs.Command.{AsksToJudgeAbout};
+ghost use Rattle.lint_program.specs.Command.{IsRunFault};
 ghost use Rattle.denial_commands.specs.{Command.answer_words, Zone.{leaves_out, leaves_out_by, AsksToLintAbout, HasNoApex, HasNoDeniedApex, HasNoJudgedApex}};
-ghost use Rattle.denial_commands.specs.Zone.{AreLinesFor, HasNoLintedApex, HaveNoLines, IsAbout, RunsOverZone};
+ghost use Rattle.denial_commands.specs.Zone.{AreLinesFor, HasNoLintedApex, HaveNoLines, IsAbout, IsReportOf, RunsOverZone};
 
 use crate::answer::answer_words;
 use crate::command::{Subcommand, subcommand_of};
@@ -15,7 +16,7 @@ use domain_hasher::Nsec3Hasher;
 use domain_includes::FileSource;
 use domain_octets::OutOfMemory;
 use judge_program::judged_apex;
-use lint_program::{Outcome, linted_zone};
+use lint_program::{Outcome, linted_zone, run_lint};
 use std::alloc::Global;
 use std::io::Write;
 use zone_program::{ZoneFault, ZoneLines, zone_lines};
@@ -181,5 +182,29 @@ pub fn run_over_zone<F: FileSource, W: Write, H: Nsec3Hasher>(
     match run_command(alloc, words, flags, hasher, files, path, &mut input, output) {
         Ok(outcome) => Ok(ZoneRun { outcome, lines }),
         Err(fault) => Err(ZoneRunFault::Records(fault, lines)),
+    }
+}
+
+/// Returns the report of `lint`, with these arguments behind its name, on lines of a zone file.
+///
+/// # Errors
+///
+/// Those of `run_lint`: `Usage` if the arguments are none, `Signing` if the hasher fails, and
+/// `OutOfMemory` if there is no memory.
+pub fn lint_lines<H: Nsec3Hasher>(
+    alloc: Global,
+    words: &[String],
+    lines: &ZoneLines,
+    hasher: &H,
+) -> Result<Vec<u8>, DenialFault>
+    ensures ok { IfOk result (λ report. IsReportOf (H.answer hasher.now)
+        (map string_bytes words.now) (string_bytes lines.now.text) report.items) }
+    ensures err { IfErr result (IsRunFault (map string_bytes words.now)) }
+{
+    let mut report = Vec::new(alloc);
+    let mut input = lines.text().as_bytes();
+    match run_lint(alloc, words, hasher, &mut input, &mut report) {
+        Ok(_) => Ok(report),
+        Err(fault) => Err(fault),
     }
 }
