@@ -50,7 +50,8 @@ most zones, and such a record is ignored. Empty lines and lines that begin with 
 skipped. A, NS, SOA, MX, DNSKEY, DS, RRSIG, NSEC, NSEC3 and NSEC3PARAM are read in their
 presentation format, and every type in the generic form of RFC 3597, as in TYPE99 \# 2 abcd.
 
-An error is one line on standard error. Exit status: 2 for a usage error, else 1.
+An error is one line on standard error. Exit status: 2 for a usage error, 3 if lint has only
+warnings, else 1.
 ";
 
 /// What `denial nsec --help` prints.
